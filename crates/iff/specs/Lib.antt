@@ -1,0 +1,10 @@
+pub mod Lists
+pub mod Bytes
+pub mod Refusals
+pub mod Files
+pub mod Lines
+pub mod Columns
+pub mod Values
+pub mod Days
+pub mod Times
+pub mod Tables

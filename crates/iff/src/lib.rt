@@ -1,0 +1,112 @@
+// Document 01's answers as types. The number and values that the paper gives each case are in specs/Refusals.antt.
+
+// The eleven files. A name, and no number: which comes when, and which is needed, is for specs/Files.antt to say.
+pub enum File {
+    Delivery,
+    Company,
+    Country,
+    Trnsmode,
+    Timezone,
+    Stations,
+    Footnote,
+    Timetbls,
+    Changes,
+    Xfootnote,
+    Xchanges,
+}
+
+// Why something is refused: refusals 1 to 17, in the paper's order.
+pub enum Reason {
+    TooLong,
+    NoRoom,
+    Absent,
+    Layout,
+    Value,
+    FirstLine,
+    Order,
+    Duplicate,
+    Reference,
+    Legs,
+    NotOneBlock,
+    NoService,
+    NoStop,
+    NoDate,
+    NoPeriod,
+    NotSound,
+    NoStation,
+}
+
+// Where: a file, a block's ordinal and a line; or nowhere, for the refusals whose place is 0, 0, 0.
+pub enum Place {
+    Nowhere,
+    At(File, u64, u64),
+}
+
+// What the tests of one line say.
+pub enum Test {
+    Passes,
+    Fails(Reason),
+}
+
+// What the tests of lines, blocks and files say: the first fault, with its place.
+pub enum Verdict {
+    Fine,
+    Fault(Reason, Place),
+}
+
+// What a load or an amendment answers: the days and the services, or the refusal.
+pub enum Answer {
+    Accepted(u64, u64),
+    Refused(Reason, Place),
+}
+
+// Where the lines of a group stand: after which record.
+pub enum Stand {
+    Start,
+    Hash,
+    Percent,
+    Dash,
+    Ampersand,
+    Asterisk,
+    Stop,
+    Between,
+    Last,
+    LastPlatform,
+    Rows,
+    Vector,
+}
+
+// What a record's letter does there.
+pub enum Next {
+    Goes(Stand),
+    NotHere,
+}
+
+// Where a line's body ends, and whether CR LF ends it there.
+pub enum Eol {
+    Ended(usize),
+    Unended,
+}
+
+// A date as a day's number; 01011600 is day 0.
+pub enum DayOf {
+    Day(u64),
+    NotADay,
+}
+
+// A time as minutes; 9999 and what is no time have none.
+pub enum MinutesOf {
+    Minutes(u64),
+    NoMinutes,
+}
+
+// Minutes on a zone's own clock, and on the reference clock. Only the zone rule turns one into the other.
+pub struct LocalMinutes(pub i32);
+
+pub struct ReferenceMinutes(pub i32);
+
+// The row of a key in a table.
+pub enum RowOf {
+    Row(usize),
+    NoRow,
+}
