@@ -60,7 +60,8 @@ pub enum Answer {
     Refused(Reason, Place),
 }
 
-// Where the lines of a group stand: after which record.
+// Where the lines of a TIMETBLS block stand: before its `#`, or after which record. `Between` is after a passed station or a platform
+// record, where no platform record may follow.
 pub enum Stand {
     Start,
     Hash,
@@ -72,8 +73,6 @@ pub enum Stand {
     Between,
     Last,
     LastPlatform,
-    Rows,
-    Vector,
 }
 
 // What a record's letter does there.

@@ -1,0 +1,85 @@
+-- "Amendment. Lent: tables, a service, a block."
+use Prim.Native.Nat.{ℕ, suc, _+_}
+use mathlib.Core.List.{List, [], _∷_, _++_, map}
+use mathlib.Core.Bool.{Bool, true, false, cond}
+use lib.ListN.{length, getD, take, drop}
+use lib.Dec.{eqb}
+use Rattle.iff.specs.Lists.{Group, groups, flat, front, position, total, has}
+use Rattle.iff.specs.Refusals.{firstFault, fine, answer}
+use Rattle.iff.specs.Files.{PerFile, of}
+use Rattle.iff.specs.Lines.{Line, lines, text, isHash, noLine}
+use Rattle.iff.specs.Tables.{Row, word, isHashRow, rowWidth, fill}
+use Rattle.iff.specs.declared.File.{File}
+use Rattle.iff.specs.declared.File.the-variants.{Delivery, Company, Country, Trnsmode, Timezone, Stations, Footnote, Timetbls, Changes, Xfootnote, Xchanges}
+use Rattle.iff.specs.declared.Reason.the-variants.{NotOneBlock, NoService, NotSound}
+use Rattle.iff.specs.declared.Place.the-variants.{Nowhere}
+use Rattle.iff.specs.declared.Verdict.{Verdict}
+use Rattle.iff.specs.declared.Answer.{Answer}
+use Rattle.iff_rules.specs.Rows.{blockRows, Context, contextOf}
+use Rattle.iff_rules.specs.Load.{faultUnless, lengthVerdict, roomVerdict, blockVerdict, serviceOf}
+use Rattle.iff_rules.specs.Sound.{sound, rowsOfTables, rowSize, firstSize}
+use Rattle.iff_desk.specs.Parts.{isOneBlock}
+
+-- the blocks of a table, and a service's place among them, from 0
+abbrev pub tableBlocks : List Row → List (Group Row)
+tableBlocks rs = groups isHashRow rs
+
+abbrev pub placeOf : ℕ → List Row → ℕ
+placeOf s rs = position (λ g. eqb (word (g .top) 1) s) (tableBlocks rs)
+
+-- the first line's row, the blocks before place k, and those behind it
+abbrev pub rowsBefore : ℕ → List Row → List Row
+rowsBefore k rs = front isHashRow rs ++ flat (take k (tableBlocks rs))
+
+abbrev pub rowsBehind : ℕ → List Row → List Row
+rowsBehind k rs = flat (drop (suc k) (tableBlocks rs))
+
+-- a text as one block
+abbrev pub asBlock : List ℕ → Group Line
+asBlock b = record { top = getD (lines b) 0 noLine; rest = drop 1 (lines b) }
+
+-- "Test 1 counts the edited text by its lines' lengths."
+abbrev pub editedLength : Context → ℕ → List Row → List ℕ → ℕ
+editedLength c k rs b =
+    firstSize + total (rowSize (c .days) Timetbls) (drop 1 (rowsBefore k rs)) + length b + total (rowSize (c .days) Timetbls) (rowsBehind k rs)
+
+abbrev pub editedLines : ℕ → List Row → List ℕ → ℕ
+editedLines k rs b = length (rowsBefore k rs) + length (lines b) + length (rowsBehind k rs)
+
+-- "After 16: 11 ..; then 12; then as a load of the edited text: 1 and 2 over TIMETBLS, then the block's lines."
+unfoldable pub amendVerdict : PerFile (List ℕ) → ℕ → List ℕ → Verdict
+amendVerdict T s b =
+    let R = rowsOfTables T in
+    let c = contextOf R in
+    let k = placeOf s (R .timetbls) in
+    firstFault
+      (faultUnless (sound T) NotSound Nowhere
+      ∷ faultUnless (isOneBlock s (lines b)) NotOneBlock Nowhere
+      ∷ faultUnless (has s (c .services)) NoService Nowhere
+      ∷ lengthVerdict Timetbls (editedLength c k (R .timetbls) b)
+      ∷ roomVerdict Timetbls (editedLines k (R .timetbls) b) (length (T .timetbls))
+      ∷ blockVerdict c (take k (c .services)) (suc k) (asBlock b)
+      ∷ [])
+
+unfoldable pub amendAnswer : PerFile (List ℕ) → ℕ → List ℕ → Answer
+amendAnswer T s b =
+    answer (amendVerdict T s b) (contextOf (rowsOfTables T) .days) (length (contextOf (rowsOfTables T) .services))
+
+-- "The block replaces the service's lines; freed room is used."
+abbrev pub amendedRows : ℕ → List Row → List ℕ → List Row
+amendedRows k rs b = rowsBefore k rs ++ (blockRows (asBlock b) ++ rowsBehind k rs)
+
+-- TIMETBLS after the call: amended, or as it stood. The other ten tables are not written.
+unfoldable pub amendTimetbls : PerFile (List ℕ) → ℕ → List ℕ → List ℕ
+amendTimetbls T s b =
+    cond (fine (amendVerdict T s b))
+    (fill (rowWidth Timetbls) (length (T .timetbls)) (amendedRows (placeOf s (rowsOfTables T .timetbls)) (rowsOfTables T .timetbls) b))
+    (T .timetbls)
+
+-- THE EDITED TEXT that an amendment is to agree with: the block in the place of the service's lines
+unfoldable pub edited : List ℕ → ℕ → List ℕ → List ℕ
+edited F s b =
+    let hd = front isHash (lines F) in
+    let gs = groups isHash (lines F) in
+    let k = position (λ g. eqb (serviceOf g) s) gs in
+    text (hd ++ flat (take k gs)) ++ (b ++ text (flat (drop (suc k) gs)))

@@ -1,0 +1,97 @@
+-- The paper's number and values of each answer.
+use Prim.Native.Nat.{ℕ}
+use mathlib.Core.List.{List, [], _∷_}
+use lib.IntN.{ℤ}
+use Rattle.iff.specs.Refusals.{number}
+use Rattle.iff.specs.declared.Reason.{Reason}
+use Rattle.iff_desk.specs.declared.Running.{Running}
+use Rattle.iff_desk.specs.declared.Running.the-variants.{Runs, Rests, RunningRefused}
+use Rattle.iff_desk.specs.declared.StopTimes.{StopTimes}
+use Rattle.iff_desk.specs.declared.StopTime.{StopTime}
+use Rattle.iff_desk.specs.declared.StopTime.the-variants.{Times, StopTimeRefused}
+use Rattle.iff_desk.specs.declared.Early.{Early}
+use Rattle.iff_desk.specs.declared.Early.the-variants.{SameService, FromRests, ToRests, StationsDiffer, NobodyAlights, NobodyBoards}
+use Rattle.iff_desk.specs.declared.Source.{Source}
+use Rattle.iff_desk.specs.declared.Source.the-variants.{FromChanges, FromStations, FromXchanges}
+use Rattle.iff_desk.specs.declared.Change.{Change}
+use Rattle.iff_desk.specs.declared.Change.the-variants.{ChangeRefused, NoBefore, NoBarred, NoShort, Yes, Unsettled}
+
+-- the refusal's number; 0 where the question is answered
+abbrev pub runningNumber : Running → ℕ
+runningNumber Runs = 0
+runningNumber Rests = 0
+runningNumber (RunningRefused r) = number r
+
+abbrev pub stopTimeNumber : StopTime → ℕ
+stopTimeNumber (Times t) = 0
+stopTimeNumber (StopTimeRefused r) = number r
+
+abbrev pub changeNumber : Change → ℕ
+changeNumber (ChangeRefused r) = number r
+changeNumber (NoBefore e) = 0
+changeNumber (NoBarred g s) = 0
+changeNumber (NoShort g s n) = 0
+changeNumber (Yes g s n) = 0
+changeNumber (Unsettled g s n) = 0
+
+-- "No .. Unsettled .. else Yes"
+pub data Word : Type 0 where
+  no yes unsettled none : Word
+
+abbrev pub verdict : Change → Word
+verdict (ChangeRefused r) = none
+verdict (NoBefore e) = no
+verdict (NoBarred g s) = no
+verdict (NoShort g s n) = no
+verdict (Yes g s n) = yes
+verdict (Unsettled g s n) = unsettled
+
+-- "A No shows its reason.": the first that holds, in the paper's order
+pub data Why : Type 0 where
+  same-service-and-date from-rests to-rests stations-differ nobody-alights nobody-boards pair-00 flag-0 gap-below-needed no-why : Why
+
+abbrev pub whyEarly : Early → Why
+whyEarly SameService = same-service-and-date
+whyEarly FromRests = from-rests
+whyEarly ToRests = to-rests
+whyEarly StationsDiffer = stations-differ
+whyEarly NobodyAlights = nobody-alights
+whyEarly NobodyBoards = nobody-boards
+
+abbrev pub whyBarred : Source → Why
+whyBarred FromChanges = pair-00
+whyBarred FromStations = flag-0
+whyBarred FromXchanges = no-why
+
+abbrev pub why : Change → Why
+why (ChangeRefused r) = no-why
+why (NoBefore e) = whyEarly e
+why (NoBarred g s) = whyBarred s
+why (NoShort g s n) = gap-below-needed
+why (Yes g s n) = no-why
+why (Unsettled g s n) = no-why
+
+-- "Gap, source and needed time are shown as far as reached": a list of one, or of none
+abbrev pub gapShown : Change → List ℤ
+gapShown (ChangeRefused r) = []
+gapShown (NoBefore e) = []
+gapShown (NoBarred g s) = g ∷ []
+gapShown (NoShort g s n) = g ∷ []
+gapShown (Yes g s n) = g ∷ []
+gapShown (Unsettled g s n) = g ∷ []
+
+abbrev pub sourceShown : Change → List Source
+sourceShown (ChangeRefused r) = []
+sourceShown (NoBefore e) = []
+sourceShown (NoBarred g s) = s ∷ []
+sourceShown (NoShort g s n) = s ∷ []
+sourceShown (Yes g s n) = s ∷ []
+sourceShown (Unsettled g s n) = s ∷ []
+
+abbrev pub neededShown : Change → List ℕ
+neededShown (ChangeRefused r) = []
+neededShown (NoBefore e) = []
+neededShown (NoBarred g s) = []
+neededShown (NoShort g s n) = n ∷ []
+neededShown (Yes g s n) = n ∷ []
+neededShown (Unsettled g s n) = n ∷ []

@@ -1,0 +1,180 @@
+-- "Change: from service A at stop i (2 to n) on its date to B at stop j (1 to n-1) on its date."
+use Prim.Native.Nat.{ℕ, _+_, _-_}
+use mathlib.Core.List.{List, [], _∷_}
+use mathlib.Core.Bool.{Bool, true, false, _&&_, _||_, not, cond}
+use lib.ListN.{drop}
+use lib.Dec.{eqb, ltb, leb}
+use lib.IntN.{ℤ, pos}
+use lib.Signed.{ltZ}
+use Rattle.iff.specs.Bytes.{percent, ampersand}
+use Rattle.iff.specs.Lists.{kept}
+use Rattle.iff.specs.Refusals.{orTest, firstTest, unless}
+use Rattle.iff.specs.Files.{PerFile}
+use Rattle.iff.specs.Times.{noTime, gapOf}
+use Rattle.iff.specs.Tables.{Row, word}
+use Rattle.iff.specs.declared.Reason.the-variants.{NoPeriod, NotSound}
+use Rattle.iff.specs.declared.Test.{Test}
+use Rattle.iff.specs.declared.Test.the-variants.{Passes, Fails}
+use Rattle.iff_rules.specs.References.{anyCompany, anyMode}
+use Rattle.iff_rules.specs.Legs.{stopsOf}
+use Rattle.iff_rules.specs.Sound.{sound, rowsOfTables}
+use Rattle.iff_desk.specs.Store.{serviceRows, groupOf, stopAt, recordOn, stationRow, dayOn, marked, vectorOf, periodOn, isThere}
+use Rattle.iff_desk.specs.Running.{asked, runsOn, isLeg}
+use Rattle.iff_desk.specs.Stops.{arrivalOf, departureOf, timesBy}
+use Rattle.iff_desk.specs.declared.TimeOf.{TimeOf}
+use Rattle.iff_desk.specs.declared.TimeOf.the-variants.{At, NoTime}
+use Rattle.iff_desk.specs.declared.StopTimes.{StopTimes}
+use Rattle.iff_desk.specs.declared.Early.{Early}
+use Rattle.iff_desk.specs.declared.Early.the-variants.{SameService, FromRests, ToRests, StationsDiffer, NobodyAlights, NobodyBoards}
+use Rattle.iff_desk.specs.declared.Source.{Source}
+use Rattle.iff_desk.specs.declared.Source.the-variants.{FromChanges, FromStations, FromXchanges}
+use Rattle.iff_desk.specs.declared.Change.{Change}
+use Rattle.iff_desk.specs.declared.Change.the-variants.{ChangeRefused, NoBefore, NoBarred, NoShort, Yes, Unsettled}
+use Rattle.iff_desk.specs.declared.Pair.{Pair}
+use Rattle.iff_desk.specs.declared.Pair.the-variants.{Possibility, NoPair}
+use Rattle.iff_desk.specs.declared.Best.{Best}
+use Rattle.iff_desk.specs.declared.Best.the-variants.{BestRow, NoBest}
+
+-- one side of a change: a service, a stop, a date
+pub record Side : Type 0 where
+  pub service : ℕ
+  pub stop : ℕ
+  pub date : ℕ
+
+-- THE NEEDED TIME
+-- "CHANGES pair there"
+abbrev pub pairIn : List Row → Pair
+pairIn [] = NoPair
+pairIn (r ∷ rs) = Possibility (word r 3)
+
+unfoldable pub pairAt : PerFile (List Row) → ℕ → ℕ → ℕ → Pair
+pairAt R station a b = pairIn (kept (λ r. eqb (word r 1) a && eqb (word r 2) b) (drop 1 (groupOf station (R .changes))))
+
+-- a key of an XCHANGES row fits: it is the wildcard, or the very company or mode
+abbrev pub fitsKey : ℕ → ℕ → ℕ → Bool
+fitsKey any key k = eqb key any || eqb key k
+
+-- company and mode of a service on a leg
+abbrev pub companyOn : List Row → ℕ → ℕ
+companyOn rs k = word (recordOn percent k rs) 1
+
+abbrev pub modeOn : List Row → ℕ → ℕ
+modeOn rs k = word (recordOn ampersand k rs) 1
+
+-- "An XCHANGES row applies if its four keys fit A on leg i-1 and B on leg j and its vector has 1 on A's date."
+unfoldable pub applies : PerFile (List Row) → List Row → ℕ → List Row → ℕ → ℕ → Row → Bool
+applies R aRows k bRows m date r =
+    fitsKey anyCompany (word r 1) (companyOn aRows k)
+    && (fitsKey anyMode (word r 2) (modeOn aRows k)
+    && (fitsKey anyCompany (word r 3) (companyOn bRows m)
+    && (fitsKey anyMode (word r 4) (modeOn bRows m)
+    && marked (vectorOf (R .xfootnote) (word r 6)) (dayOn R date))))
+
+-- "Rank, desk: 8, 4, 2, 1 for an explicit from company, from mode, to company, to mode."
+abbrev pub explicit : ℕ → ℕ → ℕ → ℕ
+explicit any key points = cond (eqb key any) 0 points
+
+unfoldable pub rank : Row → ℕ
+rank r = explicit anyCompany (word r 1) 8 + explicit anyMode (word r 2) 4 + explicit anyCompany (word r 3) 2 + explicit anyMode (word r 4) 1
+
+-- "Highest rank wins, then the larger time."
+unfoldable pub better : Best → ℕ → ℕ → Best
+better NoBest k t = BestRow k t
+better (BestRow h s) k t = cond (ltb h k) (BestRow k t) (cond (ltb k h) (BestRow h s) (cond (ltb s t) (BestRow k t) (BestRow h s)))
+
+unfoldable pub best : Best → List Row → Best
+best b [] = b
+best b (r ∷ rs) = best (better b (rank r) (word r 5)) rs
+
+unfoldable pub bestAt : PerFile (List Row) → ℕ → List Row → ℕ → List Row → ℕ → ℕ → Best
+bestAt R station aRows k bRows m date = best NoBest (kept (applies R aRows k bRows m date) (drop 1 (groupOf station (R .xchanges))))
+
+-- THE VERDICT on a gap
+-- "Gap below needed: No. Otherwise Unsettled if .., else Yes."
+unfoldable pub settled : ℤ → Source → ℕ → Bool → Change
+settled gap source needed atTop = cond (ltZ gap (pos needed)) (NoShort gap source needed) (cond atTop (Unsettled gap source needed) (Yes gap source needed))
+
+-- "best XCHANGES row; the station's change time": "Unsettled if needed is 99 from STATIONS or 999 from XCHANGES"
+unfoldable pub byTime : ℤ → Best → ℕ → Change
+byTime gap (BestRow rank time) stationTime = settled gap FromXchanges time (eqb time 999)
+byTime gap NoBest stationTime = settled gap FromStations stationTime (eqb stationTime 99)
+
+-- "first that applies: CHANGES pair there (00: No; 01 and 02: needed 0); flag 0: No; best XCHANGES row; the station's change time"
+unfoldable pub core : ℤ → Pair → ℕ → Best → ℕ → Change
+core gap (Possibility p) flag best time = cond (eqb p 0) (NoBarred gap FromChanges) (settled gap FromChanges 0 false)
+core gap NoPair flag best time = cond (eqb flag 0) (NoBarred gap FromStations) (byTime gap best time)
+
+-- "Then No, by the first that holds: same service and date; A doesn't run on leg i-1; B doesn't run on leg j; stations differ; nobody alights; nobody boards. Then 15."
+pub data Step : Type 0 where
+  stop : Early → Step
+  on : Step
+
+abbrev pub orStep : Step → Step → Step
+orStep (stop e) s = stop e
+orStep on s = s
+
+abbrev pub stopIf : Bool → Early → Step
+stopIf true e = stop e
+stopIf false e = on
+
+unfoldable pub firstStep : List Step → Step
+firstStep [] = on
+firstStep (s ∷ ss) = orStep s (firstStep ss)
+
+-- the gap, where both times are there
+abbrev pub gapBetween : TimeOf → ℕ → TimeOf → ℕ → ℤ
+gapBetween (At la ra) da (At lb rb) db = gapOf ra da rb db
+gapBetween (At la ra) da NoTime db = pos 0
+gapBetween NoTime da t db = pos 0
+
+abbrev pub afterSteps : Step → Test → Change → Change
+afterSteps (stop e) t c = NoBefore e
+afterSteps on (Fails r) c = ChangeRefused r
+afterSteps on Passes c = c
+
+-- the core: services that are there, stops and dates that are right, on sound tables
+unfoldable pub coreChange : PerFile (List Row) → Side → Side → Change
+coreChange R A B =
+    let aRows = serviceRows R (A .service) in
+    let bRows = serviceRows R (B .service) in
+    let k = A .stop - 1 in
+    let m = B .stop in
+    let a = stopAt aRows (A .stop) in
+    let b = stopAt bRows (B .stop) in
+    let station = word a 1 in
+    let pa = periodOn R station (A .date) in
+    let pb = periodOn R station (B .date) in
+    afterSteps
+      (firstStep
+        (stopIf (eqb (A .service) (B .service) && eqb (A .date) (B .date)) SameService
+        ∷ stopIf (not (runsOn R aRows k (A .date))) FromRests
+        ∷ stopIf (not (runsOn R bRows m (B .date))) ToRests
+        ∷ stopIf (not (eqb (word a 1) (word b 1))) StationsDiffer
+        ∷ stopIf (eqb (arrivalOf a) noTime) NobodyAlights
+        ∷ stopIf (eqb (departureOf b) noTime) NobodyBoards
+        ∷ []))
+      (firstTest (unless (isThere pa) NoPeriod ∷ unless (isThere pb) NoPeriod ∷ []))
+      (core
+        (gapBetween (timesBy pa a .arrival) (dayOn R (A .date)) (timesBy pb b .departure) (dayOn R (B .date)))
+        (pairAt R station (A .service) (B .service))
+        (word (stationRow R station) 1)
+        (bestAt R station aRows k bRows m (A .date))
+        (word (stationRow R station) 3))
+
+-- "12, 13, 14, for A then B each"
+unfoldable pub precheck : PerFile (List Row) → Side → Side → Test
+precheck R A B =
+    orTest
+      (asked R (A .service) (leb 2 (A .stop) && leb (A .stop) (stopsOf (serviceRows R (A .service)))) (A .date))
+      (asked R (B .service) (isLeg (serviceRows R (B .service)) (B .stop)) (B .date))
+
+abbrev pub changeAfter : Test → Change → Change
+changeAfter Passes c = c
+changeAfter (Fails r) c = ChangeRefused r
+
+abbrev pub changeIn : Bool → PerFile (List Row) → Side → Side → Change
+changeIn false R A B = ChangeRefused NotSound
+changeIn true R A B = changeAfter (precheck R A B) (coreChange R A B)
+
+unfoldable pub change : PerFile (List ℕ) → Side → Side → Change
+change T A B = changeIn (sound T) (rowsOfTables T) A B

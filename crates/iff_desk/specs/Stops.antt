@@ -1,0 +1,63 @@
+-- "Stop time: service, stop, date: station, local and reference arrival and departure, each perhaps none. 12, 13, 14, 15. It does not ask whether the service runs."
+use Prim.Native.Nat.{ℕ}
+use mathlib.Core.List.{List, [], _∷_}
+use mathlib.Core.Bool.{Bool, true, false, _&&_, cond}
+use lib.Dec.{eqb, leb}
+use lib.IntN.{pos}
+use Rattle.iff.specs.Bytes.{greater, less, plus, dash}
+use Rattle.iff.specs.Refusals.{orTest, unless}
+use Rattle.iff.specs.Files.{PerFile}
+use Rattle.iff.specs.Times.{noTime, minutesOf, referenceOf}
+use Rattle.iff.specs.Tables.{Row, word, tag}
+use Rattle.iff.specs.declared.Reason.the-variants.{NoPeriod, NotSound}
+use Rattle.iff.specs.declared.Test.{Test}
+use Rattle.iff.specs.declared.Test.the-variants.{Passes, Fails}
+use Rattle.iff.specs.declared.MinutesOf.{MinutesOf}
+use Rattle.iff.specs.declared.MinutesOf.the-variants.{Minutes, NoMinutes}
+use Rattle.iff_rules.specs.Legs.{stopsOf}
+use Rattle.iff_rules.specs.Sound.{sound, rowsOfTables}
+use Rattle.iff_desk.specs.Store.{serviceRows, stopAt, periodOn, isThere}
+use Rattle.iff_desk.specs.Running.{asked}
+use Rattle.iff_desk.specs.declared.TimeOf.{TimeOf}
+use Rattle.iff_desk.specs.declared.TimeOf.the-variants.{At, NoTime}
+use Rattle.iff_desk.specs.declared.StopTimes.{StopTimes}
+use Rattle.iff_desk.specs.declared.StopTime.{StopTime}
+use Rattle.iff_desk.specs.declared.StopTime.the-variants.{Times, StopTimeRefused}
+
+-- a stop's arrival and departure as written, 9999 for none: `>` has no arrival, `<` no departure, `.` gives both
+abbrev pub arrivalOf : Row → ℕ
+arrivalOf r = cond (eqb (tag r) greater) noTime (word r 2)
+
+abbrev pub departureOf : Row → ℕ
+departureOf r = cond (eqb (tag r) less) noTime (cond (eqb (tag r) plus) (word r 3) (word r 2))
+
+-- a time by a zone's period: on the zone's clock, and on the reference clock
+abbrev pub timeBy : Row → MinutesOf → TimeOf
+timeBy p (Minutes m) = At (record { 0 = pos m }) (referenceOf (record { 0 = pos m }) (eqb (tag p) dash) (word p 1))
+timeBy p NoMinutes = NoTime
+
+unfoldable pub timesBy : Row → Row → StopTimes
+timesBy p r =
+    record { station = word r 1; arrival = timeBy p (minutesOf (arrivalOf r)); departure = timeBy p (minutesOf (departureOf r)) }
+
+-- stops are 1 to n
+abbrev pub isStopNumber : List Row → ℕ → Bool
+isStopNumber rs i = leb 1 i && leb i (stopsOf rs)
+
+abbrev pub stopTimeAfter : Test → StopTimes → StopTime
+stopTimeAfter Passes t = Times t
+stopTimeAfter (Fails r) t = StopTimeRefused r
+
+unfoldable pub stopTimeIn : PerFile (List Row) → ℕ → ℕ → ℕ → StopTime
+stopTimeIn R s i date =
+    let rs = serviceRows R s in
+    let r = stopAt rs i in
+    let p = periodOn R (word r 1) date in
+    stopTimeAfter (orTest (asked R s (isStopNumber rs i) date) (unless (isThere p) NoPeriod)) (timesBy p r)
+
+abbrev pub stopTimes : Bool → PerFile (List Row) → ℕ → ℕ → ℕ → StopTime
+stopTimes false R s i date = StopTimeRefused NotSound
+stopTimes true R s i date = stopTimeIn R s i date
+
+unfoldable pub stopTime : PerFile (List ℕ) → ℕ → ℕ → ℕ → StopTime
+stopTime T s i date = stopTimes (sound T) (rowsOfTables T) s i date

@@ -1,0 +1,8 @@
+pub mod Order
+pub mod Rows
+pub mod Meaning
+pub mod Unique
+pub mod References
+pub mod Legs
+pub mod Load
+pub mod Sound

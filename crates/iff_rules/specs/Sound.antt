@@ -1,0 +1,178 @@
+-- "Soundness. Tables are sound when the needed first lines are there, rows meet every rule here on kept fields and file length, and unused places are zero."
+use Prim.Native.Nat.{ℕ, zero, suc, _+_, _*_}
+use mathlib.Core.List.{List, [], _∷_, _++_, map}
+use mathlib.Core.Bool.{Bool, true, false, _&&_, cond}
+use lib.ListN.{length, getD, take, drop}
+use lib.Dec.{eqb, ltb, leb}
+use Rattle.iff.specs.Bytes.{hash, at}
+use Rattle.iff.specs.Lists.{Group, front, groups, members, all, allOf, total, has, same}
+use Rattle.iff.specs.Files.{PerFile, of, perFile, inOrder, needed, limit}
+use Rattle.iff.specs.Columns.{Field, firstFields, fieldsOf, picture}
+use Rattle.iff.specs.Values.{wordsRight, wordCount}
+use Rattle.iff.specs.Tables.{Row, word, tag, isHashRow, rowWidth, rowsIn, allZero, keysOf, rising}
+use Rattle.iff.specs.declared.File.{File}
+use Rattle.iff.specs.declared.File.the-variants.{Delivery, Company, Country, Trnsmode, Timezone, Stations, Footnote, Timetbls, Changes, Xfootnote, Xchanges}
+use Rattle.iff.specs.declared.Stand.{Stand}
+use Rattle.iff_rules.specs.Order.{known, mayFollow, least, goes, isGoes, finished, isStop}
+use Rattle.iff_rules.specs.Rows.{flag, lineOne, Context, contextOf, firstOf}
+use Rattle.iff_rules.specs.Meaning.{firstMeaning, meaning}
+use Rattle.iff_rules.specs.Unique.{freshKey, freshInGroup}
+use Rattle.iff_rules.specs.References.{met}
+use Rattle.iff_rules.specs.Legs.{stopsOf, legs}
+use Rattle.iff_rules.specs.Load.{InBlock, blockStart, blockMoves}
+
+-- the entries of a list in turn, each in the state that those before it leave: all pass
+module _ {S A : Type 0} (ok : S → A → Bool) (next : S → A → S) where
+  unfoldable pub passes : S → List A → Bool
+  passes st [] = true
+  passes st (x ∷ xs) = ok st x && passes (next st x) xs
+
+-- the rows of eleven tables
+abbrev pub rowsOfTables : PerFile (List ℕ) → PerFile (List Row)
+rowsOfTables T = perFile (λ f. rowsIn f (of T f))
+
+-- a row's tag and words are those of a record with these fields, and its other words are zero
+unfoldable pub shaped : List Field → Row → Bool
+shaped fs r = wordsRight (drop 1 r) fs && allZero (drop (suc (wordCount fs)) r)
+
+-- A FIRST LINE'S ROW: as DELIVERY's on what is kept, with the derived words that belong there
+unfoldable pub soundFirst : File → Row → Row → List Row → Bool
+soundFirst f delivery r later =
+    allOf
+      (eqb (tag r) at
+      ∷ wordsRight (drop 1 r) firstFields
+      ∷ firstMeaning r
+      ∷ same (take 5 r) (take 5 delivery)
+      ∷ eqb (word r 5) (flag (rising (keysOf f later)))
+      ∷ same (take (length (lineOne f)) (drop 6 r)) (lineOne f)
+      ∷ allZero (drop (6 + length (lineOne f)) r)
+      ∷ [])
+
+-- A ROW of a file without record letters, after some rows
+unfoldable pub soundPlainRow : Context → File → List Row → Row → Bool
+soundPlainRow c f earlier r =
+    allOf
+      (eqb (tag r) 1
+      ∷ shaped (fieldsOf (c .days) f (tag r)) r
+      ∷ meaning f (length earlier) r
+      ∷ freshKey f (keysOf f earlier) r
+      ∷ met c f r
+      ∷ [])
+
+abbrev pub soundPlain : Context → File → List Row → Bool
+soundPlain c f rs = passes (soundPlainRow c f) (λ earlier r. earlier ++ (r ∷ [])) [] rs
+
+-- A ROW OF A GROUP
+unfoldable pub soundGroupRow : Context → File → List ℕ → List Row → Row → Bool
+soundGroupRow c f seen earlier r =
+    allOf
+      (mayFollow f (length earlier) (tag r)
+      ∷ shaped (fieldsOf (c .days) f (tag r)) r
+      ∷ meaning f (length earlier) r
+      ∷ freshKey f seen r
+      ∷ freshInGroup f (drop 1 earlier) r
+      ∷ met c f r
+      ∷ [])
+
+unfoldable pub soundGroup : Context → File → List ℕ → Group Row → Bool
+soundGroup c f seen g =
+    passes (soundGroupRow c f seen) (λ earlier r. earlier ++ (r ∷ [])) [] (members g) && leb (least f) (length (members g))
+
+abbrev pub empty : List Row → Bool
+empty [] = true
+empty (r ∷ rs) = false
+
+abbrev pub seeing : List ℕ → Group Row → List ℕ
+seeing seen g = seen ++ (word (g .top) 1 ∷ [])
+
+unfoldable pub soundGroups : Context → File → List Row → Bool
+soundGroups c f rs = empty (front isHashRow rs) && passes (soundGroup c f) seeing [] (groups isHashRow rs)
+
+-- A ROW OF A TIMETBLS BLOCK: its number in the block is its last word; the `#` row counts the block's lines and stops beside its own field
+abbrev pub ownWords : Row → Row
+ownWords r = cond (isHashRow r) (take 2 r ++ drop 4 (take 6 r)) (take 6 r)
+
+pub record InRows : Type 0 where
+  pub block : InBlock
+  pub line : ℕ
+
+unfoldable pub soundBlockRow : Context → List ℕ → InRows → Row → Bool
+soundBlockRow c seen st r =
+    allOf
+      (isGoes (goes (st .block .stand) (tag r))
+      ∷ shaped (fieldsOf (c .days) Timetbls (tag r)) (ownWords r)
+      ∷ eqb (word r 6) (st .line)
+      ∷ meaning Timetbls (st .block .stops) r
+      ∷ freshKey Timetbls seen r
+      ∷ met c Timetbls r
+      ∷ [])
+
+abbrev pub nextRow : InRows → Row → InRows
+nextRow st r = record { block = blockMoves (st .block) (tag r); line = suc (st .line) }
+
+abbrev pub rowsStart : InRows
+rowsStart = record { block = blockStart; line = 1 }
+
+-- where a block stands after its rows
+unfoldable pub standAfterRows : InBlock → List Row → Stand
+standAfterRows st [] = st .stand
+standAfterRows st (r ∷ rs) = standAfterRows (blockMoves st (tag r)) rs
+
+unfoldable pub soundBlock : Context → List ℕ → Group Row → Bool
+soundBlock c seen g =
+    allOf
+      (passes (soundBlockRow c seen) nextRow rowsStart (members g)
+      ∷ finished (standAfterRows blockStart (members g))
+      ∷ legs (members g)
+      ∷ eqb (word (g .top) 2) (length (members g))
+      ∷ eqb (word (g .top) 3) (stopsOf (members g))
+      ∷ [])
+
+unfoldable pub soundTimetbls : Context → List Row → Bool
+soundTimetbls c rs = empty (front isHashRow rs) && passes (soundBlock c) seeing [] (groups isHashRow rs)
+
+-- the rows after the first line's
+abbrev pub soundLater : Context → File → List Row → Bool
+soundLater c Delivery rs = empty rs
+soundLater c Company rs = soundPlain c Company rs
+soundLater c Country rs = soundPlain c Country rs
+soundLater c Trnsmode rs = soundPlain c Trnsmode rs
+soundLater c Timezone rs = soundGroups c Timezone rs
+soundLater c Stations rs = soundPlain c Stations rs
+soundLater c Footnote rs = soundGroups c Footnote rs
+soundLater c Timetbls rs = soundTimetbls c rs
+soundLater c Changes rs = soundGroups c Changes rs
+soundLater c Xfootnote rs = soundGroups c Xfootnote rs
+soundLater c Xchanges rs = soundGroups c Xchanges rs
+
+-- the bytes of the line that a row stands for, with its CR LF
+abbrev pub rowSize : ℕ → File → Row → ℕ
+rowSize days f r = length (picture (fieldsOf days f (tag r))) + 2
+
+abbrev pub firstSize : ℕ
+firstSize = length (picture firstFields) + 2
+
+unfoldable pub soundRows : Context → Row → File → List Row → Bool
+soundRows c delivery f [] = true
+soundRows c delivery f (r ∷ rs) =
+    allOf
+      (soundFirst f delivery r rs
+      ∷ soundLater c f rs
+      ∷ leb (firstSize + total (rowSize (c .days) f) rs) limit
+      ∷ [])
+
+-- one table: its rows are sound, there are some where they are needed, and unused places are zero
+unfoldable pub soundTable : Context → PerFile (List Row) → File → List ℕ → Bool
+soundTable c R f t =
+    allOf
+      (cond (needed (ltb 0 (length (R .xchanges))) f) (ltb 0 (length (of R f))) true
+      ∷ soundRows c (firstOf (R .delivery)) f (of R f)
+      ∷ allZero (drop (length (of R f) * rowWidth f) t)
+      ∷ [])
+
+-- the eleven tables
+unfoldable pub sound : PerFile (List ℕ) → Bool
+sound T =
+    let R = rowsOfTables T in
+    let c = contextOf R in
+    all (λ f. soundTable c R f (of T f)) inOrder && has (word (firstOf (R .delivery)) 1) (c .companies)
