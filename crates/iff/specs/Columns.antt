@@ -7,6 +7,8 @@ use lib.Dec.{eqb}
 use Rattle.iff.specs.Bytes.{hash, percent, ampersand, asterisk, plus, comma, dash, dot, semicolon, less, greater, question, at, allowed, digit, zeroOrOne}
 use Rattle.iff.specs.Lists.{all2}
 use Rattle.iff.specs.Lines.{Line}
+use Rattle.iff.specs.declared.Record.{Record}
+use Rattle.iff.specs.declared.Record.the-variants.{FirstRecord, CompanyRow, CountryRow, ModeRow, ZoneHead, ZonePeriod, StationRow, FootnoteHead, FootnoteVector, ServiceHead, TrainNumber, Validity, Transport, Attribute, PlainStop, Interval, Passed, Platform, ChangeHead, ChangePair, ChangeException}
 use Rattle.iff.specs.declared.File.{File}
 use Rattle.iff.specs.declared.File.the-variants.{Delivery, Company, Country, Trnsmode, Timezone, Stations, Footnote, Timetbls, Changes, Xfootnote, Xchanges}
 
@@ -131,31 +133,58 @@ variantWidth = 7
 abbrev pub on : {A : Type 0} → ℕ → ℕ → A → A → A
 on x k a b = cond (eqb x k) a b
 
+-- every record of the table; a vector has as many columns as there are days
+unfoldable pub recordFields : ℕ → Record → List Field
+recordFields days FirstRecord = firstFields
+recordFields days CompanyRow = companyFields
+recordFields days CountryRow = countryFields
+recordFields days ModeRow = modeFields
+recordFields days ZoneHead = zoneFields
+recordFields days ZonePeriod = periodFields
+recordFields days StationRow = stationFields
+recordFields days FootnoteHead = footnoteFields
+recordFields days FootnoteVector = vectorFields days
+recordFields days ServiceHead = serviceFields
+recordFields days TrainNumber = numberFields variantWidth
+recordFields days Validity = validityFields
+recordFields days Transport = transportFields
+recordFields days Attribute = attributeFields
+recordFields days PlainStop = stopFields
+recordFields days Interval = intervalFields
+recordFields days Passed = passedFields
+recordFields days Platform = platformFields
+recordFields days ChangeHead = changeStationFields
+recordFields days ChangePair = pairFields
+recordFields days ChangeException = exceptionFields
+
 -- the record that begins with x, after the first line; in a file without record letters, its row
-unfoldable pub timetblsFields : ℕ → List Field
-timetblsFields x =
-    on x hash serviceFields
-    (on x percent (numberFields variantWidth)
-    (on x dash validityFields
-    (on x ampersand transportFields
-    (on x asterisk attributeFields
-    (on x plus intervalFields
-    (on x semicolon passedFields
-    (on x question platformFields
-    stopFields)))))))
+unfoldable pub blockRecord : ℕ → Record
+blockRecord x =
+    on x hash ServiceHead
+    (on x percent TrainNumber
+    (on x dash Validity
+    (on x ampersand Transport
+    (on x asterisk Attribute
+    (on x plus Interval
+    (on x semicolon Passed
+    (on x question Platform
+    PlainStop)))))))
+
+unfoldable pub recordOf : File → ℕ → Record
+recordOf Delivery x = FirstRecord
+recordOf Company x = CompanyRow
+recordOf Country x = CountryRow
+recordOf Trnsmode x = ModeRow
+recordOf Timezone x = on x hash ZoneHead ZonePeriod
+recordOf Stations x = StationRow
+recordOf Footnote x = on x hash FootnoteHead FootnoteVector
+recordOf Timetbls x = blockRecord x
+recordOf Changes x = on x hash ChangeHead ChangePair
+recordOf Xfootnote x = on x hash FootnoteHead FootnoteVector
+recordOf Xchanges x = on x hash ChangeHead ChangeException
 
 unfoldable pub fieldsOf : ℕ → File → ℕ → List Field
-fieldsOf days Delivery x = firstFields
-fieldsOf days Company x = companyFields
-fieldsOf days Country x = countryFields
-fieldsOf days Trnsmode x = modeFields
-fieldsOf days Timezone x = on x hash zoneFields periodFields
-fieldsOf days Stations x = stationFields
-fieldsOf days Footnote x = on x hash footnoteFields (vectorFields days)
-fieldsOf days Timetbls x = timetblsFields x
-fieldsOf days Changes x = on x hash changeStationFields pairFields
-fieldsOf days Xfootnote x = on x hash footnoteFields (vectorFields days)
-fieldsOf days Xchanges x = on x hash changeStationFields exceptionFields
+fieldsOf days f x = recordFields days (recordOf f x)
 
 -- a record's columns, one mark for each: a comma for a gap, else what the column's field holds
 abbrev pub mark : Class → ℕ

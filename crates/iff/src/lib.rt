@@ -15,6 +15,31 @@ pub enum File {
     Xchanges,
 }
 
+// The records of the Columns table, in its order.
+pub enum Record {
+    FirstRecord,
+    CompanyRow,
+    CountryRow,
+    ModeRow,
+    ZoneHead,
+    ZonePeriod,
+    StationRow,
+    FootnoteHead,
+    FootnoteVector,
+    ServiceHead,
+    TrainNumber,
+    Validity,
+    Transport,
+    Attribute,
+    PlainStop,
+    Interval,
+    Passed,
+    Platform,
+    ChangeHead,
+    ChangePair,
+    ChangeException,
+}
+
 // Why something is refused: refusals 1 to 17, in the paper's order.
 pub enum Reason {
     TooLong,

@@ -53,13 +53,13 @@ amendVerdict T s b =
     let c = contextOf R in
     let k = placeOf s (R .timetbls) in
     firstFault
-      (faultUnless (sound T) NotSound Nowhere
-      ∷ faultUnless (isOneBlock s (lines b)) NotOneBlock Nowhere
-      ∷ faultUnless (has s (c .services)) NoService Nowhere
-      ∷ lengthVerdict Timetbls (editedLength c k (R .timetbls) b)
-      ∷ roomVerdict Timetbls (editedLines k (R .timetbls) b) (length (T .timetbls))
-      ∷ blockVerdict c (take k (c .services)) (suc k) (asBlock b)
-      ∷ [])
+    (faultUnless (sound T) NotSound Nowhere
+    ∷ faultUnless (isOneBlock s (lines b)) NotOneBlock Nowhere
+    ∷ faultUnless (has s (c .services)) NoService Nowhere
+    ∷ lengthVerdict Timetbls (editedLength c k (R .timetbls) b)
+    ∷ roomVerdict Timetbls (editedLines k (R .timetbls) b) (length (T .timetbls))
+    ∷ blockVerdict c (take k (c .services)) (suc k) (asBlock b)
+    ∷ [])
 
 unfoldable pub amendAnswer : PerFile (List ℕ) → ℕ → List ℕ → Answer
 amendAnswer T s b =

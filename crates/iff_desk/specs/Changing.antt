@@ -145,28 +145,28 @@ coreChange R A B =
     let pa = periodOn R station (A .date) in
     let pb = periodOn R station (B .date) in
     afterSteps
-      (firstStep
-        (stopIf (eqb (A .service) (B .service) && eqb (A .date) (B .date)) SameService
-        ∷ stopIf (not (runsOn R aRows k (A .date))) FromRests
-        ∷ stopIf (not (runsOn R bRows m (B .date))) ToRests
-        ∷ stopIf (not (eqb (word a 1) (word b 1))) StationsDiffer
-        ∷ stopIf (eqb (arrivalOf a) noTime) NobodyAlights
-        ∷ stopIf (eqb (departureOf b) noTime) NobodyBoards
-        ∷ []))
-      (firstTest (unless (isThere pa) NoPeriod ∷ unless (isThere pb) NoPeriod ∷ []))
-      (core
-        (gapBetween (timesBy pa a .arrival) (dayOn R (A .date)) (timesBy pb b .departure) (dayOn R (B .date)))
-        (pairAt R station (A .service) (B .service))
-        (word (stationRow R station) 1)
-        (bestAt R station aRows k bRows m (A .date))
-        (word (stationRow R station) 3))
+    (firstStep
+    (stopIf (eqb (A .service) (B .service) && eqb (A .date) (B .date)) SameService
+    ∷ stopIf (not (runsOn R aRows k (A .date))) FromRests
+    ∷ stopIf (not (runsOn R bRows m (B .date))) ToRests
+    ∷ stopIf (not (eqb (word a 1) (word b 1))) StationsDiffer
+    ∷ stopIf (eqb (arrivalOf a) noTime) NobodyAlights
+    ∷ stopIf (eqb (departureOf b) noTime) NobodyBoards
+    ∷ []))
+    (firstTest (unless (isThere pa) NoPeriod ∷ unless (isThere pb) NoPeriod ∷ []))
+    (core
+    (gapBetween (timesBy pa a .arrival) (dayOn R (A .date)) (timesBy pb b .departure) (dayOn R (B .date)))
+    (pairAt R station (A .service) (B .service))
+    (word (stationRow R station) 1)
+    (bestAt R station aRows k bRows m (A .date))
+    (word (stationRow R station) 3))
 
 -- "12, 13, 14, for A then B each"
 unfoldable pub precheck : PerFile (List Row) → Side → Side → Test
 precheck R A B =
     orTest
-      (asked R (A .service) (leb 2 (A .stop) && leb (A .stop) (stopsOf (serviceRows R (A .service)))) (A .date))
-      (asked R (B .service) (isLeg (serviceRows R (B .service)) (B .stop)) (B .date))
+    (asked R (A .service) (leb 2 (A .stop) && leb (A .stop) (stopsOf (serviceRows R (A .service)))) (A .date))
+    (asked R (B .service) (isLeg (serviceRows R (B .service)) (B .stop)) (B .date))
 
 abbrev pub changeAfter : Test → Change → Change
 changeAfter Passes c = c

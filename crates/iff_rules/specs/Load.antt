@@ -38,15 +38,15 @@ faultUnless b r p = verdictAt p (unless b r)
 unfoldable pub firstLineTest : Bool → Line → Test
 firstLineTest asDelivery l =
     lineTest
-      (record
-        { known = true
-        ; here = eqb (letter l) at
-        ; laidOut = laid l firstFields
-        ; asFirst = asDelivery
-        ; valued = readable (l .body) firstFields && firstMeaning (firstRowOf Delivery true l)
-        ; fresh = true
-        ; met = true
-        })
+    (record {
+      known = true;
+      here = eqb (letter l) at;
+      laidOut = laid l firstFields;
+      asFirst = asDelivery;
+      valued = readable (l .body) firstFields && firstMeaning (firstRowOf Delivery true l);
+      fresh = true;
+      met = true;
+    })
 
 -- DELIVERY: its first line; "a second line in DELIVERY, is 7 at once"
 abbrev pub second : List Line → Verdict
@@ -61,15 +61,15 @@ deliveryVerdict (l ∷ ls) = firstFault (verdictAt (At Delivery 0 1) (firstLineT
 unfoldable pub plainTest : Context → File → List Line → Line → Test
 plainTest c f earlier l =
     lineTest
-      (record
-        { known = true
-        ; here = true
-        ; laidOut = laid l (fieldsOf (c .days) f (letter l))
-        ; asFirst = true
-        ; valued = readable (l .body) (fieldsOf (c .days) f (letter l)) && meaning f (length earlier) (rowOf (c .days) f l)
-        ; fresh = freshKey f (keysOf f (map (rowOf (c .days) f) earlier)) (rowOf (c .days) f l) && freshTexts f earlier l
-        ; met = met c f (rowOf (c .days) f l)
-        })
+    (record {
+      known = true;
+      here = true;
+      laidOut = laid l (fieldsOf (c .days) f (letter l));
+      asFirst = true;
+      valued = readable (l .body) (fieldsOf (c .days) f (letter l)) && meaning f (length earlier) (rowOf (c .days) f l);
+      fresh = freshKey f (keysOf f (map (rowOf (c .days) f) earlier)) (rowOf (c .days) f l) && freshTexts f earlier l;
+      met = met c f (rowOf (c .days) f l);
+    })
 
 -- the rows of such a file, from line i on
 unfoldable pub plainVerdict : Context → File → List Line → Verdict
@@ -80,23 +80,23 @@ plainVerdict c f ls =
 unfoldable pub groupTest : Context → File → List ℕ → List Row → Line → Test
 groupTest c f seen earlier l =
     lineTest
-      (record
-        { known = known f (letter l)
-        ; here = mayFollow f (length earlier) (tagOf f (letter l))
-        ; laidOut = laid l (fieldsOf (c .days) f (letter l))
-        ; asFirst = true
-        ; valued = readable (l .body) (fieldsOf (c .days) f (letter l)) && meaning f (length earlier) (rowOf (c .days) f l)
-        ; fresh = freshKey f seen (rowOf (c .days) f l) && freshInGroup f (drop 1 earlier) (rowOf (c .days) f l)
-        ; met = met c f (rowOf (c .days) f l)
-        })
+    (record {
+      known = known f (letter l);
+      here = mayFollow f (length earlier) (tagOf f (letter l));
+      laidOut = laid l (fieldsOf (c .days) f (letter l));
+      asFirst = true;
+      valued = readable (l .body) (fieldsOf (c .days) f (letter l)) && meaning f (length earlier) (rowOf (c .days) f l);
+      fresh = freshKey f seen (rowOf (c .days) f l) && freshInGroup f (drop 1 earlier) (rowOf (c .days) f l);
+      met = met c f (rowOf (c .days) f l);
+    })
 
 -- a group whose `#` is line i: its lines; "unfinished: 7 at the group's last line, after that line's own tests"
 unfoldable pub groupVerdict : Context → File → List ℕ → ℕ → Group Line → Verdict
 groupVerdict c f seen i g =
     firstFault
-      (scan (λ earlier k l. verdictAt (At f 0 k) (groupTest c f seen earlier l)) (λ earlier l. earlier ++ (rowOf (c .days) f l ∷ [])) [] i (members g)
-      ∷ faultUnless (leb (least f) (length (members g))) Order (At f 0 (i + length (g .rest)))
-      ∷ [])
+    (scan (λ earlier k l. verdictAt (At f 0 k) (groupTest c f seen earlier l)) (λ earlier l. earlier ++ (rowOf (c .days) f l ∷ [])) [] i (members g)
+    ∷ faultUnless (leb (least f) (length (members g))) Order (At f 0 (i + length (g .rest)))
+    ∷ [])
 
 -- between groups: the keys seen, and the line of the next `#`
 pub record Between : Type 0 where
@@ -115,9 +115,9 @@ strayVerdict f (l ∷ ls) = verdictAt (At f 0 2) (lineTest (strayTests (known f 
 unfoldable pub groupsVerdict : Context → File → List Line → Verdict
 groupsVerdict c f ls =
     firstFault
-      (strayVerdict f (front isHash ls)
-      ∷ scan (λ b o g. groupVerdict c f (b .seen) (b .line) g) (afterGroup c f) (record { seen = []; line = 2 }) 1 (blocksOf ls)
-      ∷ [])
+    (strayVerdict f (front isHash ls)
+    ∷ scan (λ b o g. groupVerdict c f (b .seen) (b .line) g) (afterGroup c f) (record { seen = []; line = 2 }) 1 (blocksOf ls)
+    ∷ [])
 
 -- A LINE OF A TIMETBLS BLOCK, where it stands, after some stops, and after blocks of some services
 pub record InBlock : Type 0 where
@@ -127,15 +127,15 @@ pub record InBlock : Type 0 where
 unfoldable pub blockTest : Context → List ℕ → InBlock → Line → Test
 blockTest c seen st l =
     lineTest
-      (record
-        { known = known Timetbls (letter l)
-        ; here = isGoes (goes (st .stand) (letter l))
-        ; laidOut = laid l (fieldsOf (c .days) Timetbls (letter l))
-        ; asFirst = true
-        ; valued = readable (l .body) (fieldsOf (c .days) Timetbls (letter l)) && meaning Timetbls (st .stops) (rowOf (c .days) Timetbls l)
-        ; fresh = freshKey Timetbls seen (rowOf (c .days) Timetbls l)
-        ; met = met c Timetbls (rowOf (c .days) Timetbls l)
-        })
+    (record {
+      known = known Timetbls (letter l);
+      here = isGoes (goes (st .stand) (letter l));
+      laidOut = laid l (fieldsOf (c .days) Timetbls (letter l));
+      asFirst = true;
+      valued = readable (l .body) (fieldsOf (c .days) Timetbls (letter l)) && meaning Timetbls (st .stops) (rowOf (c .days) Timetbls l);
+      fresh = freshKey Timetbls seen (rowOf (c .days) Timetbls l);
+      met = met c Timetbls (rowOf (c .days) Timetbls l);
+    })
 
 abbrev pub blockStart : InBlock
 blockStart = record { stand = Start; stops = 0 }
@@ -150,10 +150,10 @@ blockNext st l = blockMoves st (letter l)
 unfoldable pub blockVerdict : Context → List ℕ → ℕ → Group Line → Verdict
 blockVerdict c seen o g =
     firstFault
-      (scan (λ st j l. verdictAt (At Timetbls o j) (blockTest c seen st l)) blockNext blockStart 1 (members g)
-      ∷ faultUnless (finished (after blockNext blockStart (members g) .stand)) Order (At Timetbls o (length (members g)))
-      ∷ faultUnless (legs (blockRows g)) Legs (At Timetbls o 1)
-      ∷ [])
+    (scan (λ st j l. verdictAt (At Timetbls o j) (blockTest c seen st l)) blockNext blockStart 1 (members g)
+    ∷ faultUnless (finished (after blockNext blockStart (members g) .stand)) Order (At Timetbls o (length (members g)))
+    ∷ faultUnless (legs (blockRows g)) Legs (At Timetbls o 1)
+    ∷ [])
 
 -- the service that a block names
 abbrev pub serviceOf : Group Line → ℕ
@@ -162,9 +162,9 @@ serviceOf g = word (rowOf 0 Timetbls (g .top)) 1
 unfoldable pub timetblsVerdict : Context → List Line → Verdict
 timetblsVerdict c ls =
     firstFault
-      (strayVerdict Timetbls (front isHash ls)
-      ∷ scan (λ seen o g. blockVerdict c seen o g) (λ seen g. seen ++ (serviceOf g ∷ [])) [] 1 (blocksOf ls)
-      ∷ [])
+    (strayVerdict Timetbls (front isHash ls)
+    ∷ scan (λ seen o g. blockVerdict c seen o g) (λ seen g. seen ++ (serviceOf g ∷ [])) [] 1 (blocksOf ls)
+    ∷ [])
 
 -- A FILE AFTER ITS FIRST LINE
 abbrev pub laterVerdict : Context → File → List Line → Verdict
@@ -216,28 +216,28 @@ readFile c F f = fileVerdict c (headerOf F) f (lines (of F f))
 unfoldable pub contentsVerdict : Context → PerFile (List Row) → PerFile (List ℕ) → Verdict
 contentsVerdict c R F =
     firstFault
-      (deliveryVerdict (lines (F .delivery))
-      ∷ readFile c F Company
-      ∷ companyVerdict c (R .delivery)
-      ∷ readFile c F Country
-      ∷ readFile c F Trnsmode
-      ∷ readFile c F Timezone
-      ∷ readFile c F Stations
-      ∷ readFile c F Footnote
-      ∷ readFile c F Timetbls
-      ∷ readFile c F Changes
-      ∷ readFile c F Xfootnote
-      ∷ readFile c F Xchanges
-      ∷ [])
+    (deliveryVerdict (lines (F .delivery))
+    ∷ readFile c F Company
+    ∷ companyVerdict c (R .delivery)
+    ∷ readFile c F Country
+    ∷ readFile c F Trnsmode
+    ∷ readFile c F Timezone
+    ∷ readFile c F Stations
+    ∷ readFile c F Footnote
+    ∷ readFile c F Timetbls
+    ∷ readFile c F Changes
+    ∷ readFile c F Xfootnote
+    ∷ readFile c F Xchanges
+    ∷ [])
 
 unfoldable pub loadVerdict : PerFile (List ℕ) → PerFile ℕ → Verdict
 loadVerdict F R =
     firstFault
-      (overFiles (λ f. lengthVerdict f (length (of F f)))
-      ∷ overFiles (λ f. absenceVerdict (present (F .xchanges)) f (of F f))
-      ∷ overFiles (λ f. roomVerdict f (length (lines (of F f))) (of R f))
-      ∷ contentsVerdict (contextOf (rowsOfFiles F)) (rowsOfFiles F) F
-      ∷ [])
+    (overFiles (λ f. lengthVerdict f (length (of F f)))
+    ∷ overFiles (λ f. absenceVerdict (present (F .xchanges)) f (of F f))
+    ∷ overFiles (λ f. roomVerdict f (length (lines (of F f))) (of R f))
+    ∷ contentsVerdict (contextOf (rowsOfFiles F)) (rowsOfFiles F) F
+    ∷ [])
 
 -- "an accepted load .. answers days and services"
 unfoldable pub loadAnswer : PerFile (List ℕ) → PerFile ℕ → Answer

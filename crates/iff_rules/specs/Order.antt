@@ -31,14 +31,14 @@ pub record LineTests : Type 0 where
 unfoldable pub lineTest : LineTests → Test
 lineTest t =
     firstTest
-      (unless (t .known) Layout
-      ∷ unless (t .here) Order
-      ∷ unless (t .laidOut) Layout
-      ∷ unless (t .asFirst) FirstLine
-      ∷ unless (t .valued) Value
-      ∷ unless (t .fresh) Duplicate
-      ∷ unless (t .met) Reference
-      ∷ [])
+    (unless (t .known) Layout
+    ∷ unless (t .here) Order
+    ∷ unless (t .laidOut) Layout
+    ∷ unless (t .asFirst) FirstLine
+    ∷ unless (t .valued) Value
+    ∷ unless (t .fresh) Duplicate
+    ∷ unless (t .met) Reference
+    ∷ [])
 
 -- a line where no record may stand: 4 where its first byte is not known, else 7
 abbrev pub strayTests : Bool → LineTests

@@ -123,14 +123,14 @@ pub record Context : Type 0 where
 -- the same of text and of tables: both give rows
 unfoldable pub contextOf : PerFile (List Row) → Context
 contextOf R =
-    record
-      { days = daysOf (firstOf (R .delivery))
-      ; companies = keysOf Company (R .company)
-      ; countries = keysOf Country (R .country)
-      ; modes = keysOf Trnsmode (R .trnsmode)
-      ; zones = keysOf Timezone (R .timezone)
-      ; stations = keysOf Stations (R .stations)
-      ; footnotes = keysOf Footnote (R .footnote)
-      ; services = keysOf Timetbls (R .timetbls)
-      ; xfootnotes = keysOf Xfootnote (R .xfootnote)
-      }
+    record {
+      days = daysOf (firstOf (R .delivery));
+      companies = keysOf Company (R .company);
+      countries = keysOf Country (R .country);
+      modes = keysOf Trnsmode (R .trnsmode);
+      zones = keysOf Timezone (R .timezone);
+      stations = keysOf Stations (R .stations);
+      footnotes = keysOf Footnote (R .footnote);
+      services = keysOf Timetbls (R .timetbls);
+      xfootnotes = keysOf Xfootnote (R .xfootnote);
+    }

@@ -39,25 +39,25 @@ shaped fs r = wordsRight (drop 1 r) fs && allZero (drop (suc (wordCount fs)) r)
 unfoldable pub soundFirst : File → Row → Row → List Row → Bool
 soundFirst f delivery r later =
     allOf
-      (eqb (tag r) at
-      ∷ wordsRight (drop 1 r) firstFields
-      ∷ firstMeaning r
-      ∷ same (take 5 r) (take 5 delivery)
-      ∷ eqb (word r 5) (flag (rising (keysOf f later)))
-      ∷ same (take (length (lineOne f)) (drop 6 r)) (lineOne f)
-      ∷ allZero (drop (6 + length (lineOne f)) r)
-      ∷ [])
+    (eqb (tag r) at
+    ∷ wordsRight (drop 1 r) firstFields
+    ∷ firstMeaning r
+    ∷ same (take 5 r) (take 5 delivery)
+    ∷ eqb (word r 5) (flag (rising (keysOf f later)))
+    ∷ same (take (length (lineOne f)) (drop 6 r)) (lineOne f)
+    ∷ allZero (drop (6 + length (lineOne f)) r)
+    ∷ [])
 
 -- A ROW of a file without record letters, after some rows
 unfoldable pub soundPlainRow : Context → File → List Row → Row → Bool
 soundPlainRow c f earlier r =
     allOf
-      (eqb (tag r) 1
-      ∷ shaped (fieldsOf (c .days) f (tag r)) r
-      ∷ meaning f (length earlier) r
-      ∷ freshKey f (keysOf f earlier) r
-      ∷ met c f r
-      ∷ [])
+    (eqb (tag r) 1
+    ∷ shaped (fieldsOf (c .days) f (tag r)) r
+    ∷ meaning f (length earlier) r
+    ∷ freshKey f (keysOf f earlier) r
+    ∷ met c f r
+    ∷ [])
 
 abbrev pub soundPlain : Context → File → List Row → Bool
 soundPlain c f rs = passes (soundPlainRow c f) (λ earlier r. earlier ++ (r ∷ [])) [] rs
@@ -66,13 +66,13 @@ soundPlain c f rs = passes (soundPlainRow c f) (λ earlier r. earlier ++ (r ∷ 
 unfoldable pub soundGroupRow : Context → File → List ℕ → List Row → Row → Bool
 soundGroupRow c f seen earlier r =
     allOf
-      (mayFollow f (length earlier) (tag r)
-      ∷ shaped (fieldsOf (c .days) f (tag r)) r
-      ∷ meaning f (length earlier) r
-      ∷ freshKey f seen r
-      ∷ freshInGroup f (drop 1 earlier) r
-      ∷ met c f r
-      ∷ [])
+    (mayFollow f (length earlier) (tag r)
+    ∷ shaped (fieldsOf (c .days) f (tag r)) r
+    ∷ meaning f (length earlier) r
+    ∷ freshKey f seen r
+    ∷ freshInGroup f (drop 1 earlier) r
+    ∷ met c f r
+    ∷ [])
 
 unfoldable pub soundGroup : Context → File → List ℕ → Group Row → Bool
 soundGroup c f seen g =
@@ -99,13 +99,13 @@ pub record InRows : Type 0 where
 unfoldable pub soundBlockRow : Context → List ℕ → InRows → Row → Bool
 soundBlockRow c seen st r =
     allOf
-      (isGoes (goes (st .block .stand) (tag r))
-      ∷ shaped (fieldsOf (c .days) Timetbls (tag r)) (ownWords r)
-      ∷ eqb (word r 6) (st .line)
-      ∷ meaning Timetbls (st .block .stops) r
-      ∷ freshKey Timetbls seen r
-      ∷ met c Timetbls r
-      ∷ [])
+    (isGoes (goes (st .block .stand) (tag r))
+    ∷ shaped (fieldsOf (c .days) Timetbls (tag r)) (ownWords r)
+    ∷ eqb (word r 6) (st .line)
+    ∷ meaning Timetbls (st .block .stops) r
+    ∷ freshKey Timetbls seen r
+    ∷ met c Timetbls r
+    ∷ [])
 
 abbrev pub nextRow : InRows → Row → InRows
 nextRow st r = record { block = blockMoves (st .block) (tag r); line = suc (st .line) }
@@ -121,12 +121,12 @@ standAfterRows st (r ∷ rs) = standAfterRows (blockMoves st (tag r)) rs
 unfoldable pub soundBlock : Context → List ℕ → Group Row → Bool
 soundBlock c seen g =
     allOf
-      (passes (soundBlockRow c seen) nextRow rowsStart (members g)
-      ∷ finished (standAfterRows blockStart (members g))
-      ∷ legs (members g)
-      ∷ eqb (word (g .top) 2) (length (members g))
-      ∷ eqb (word (g .top) 3) (stopsOf (members g))
-      ∷ [])
+    (passes (soundBlockRow c seen) nextRow rowsStart (members g)
+    ∷ finished (standAfterRows blockStart (members g))
+    ∷ legs (members g)
+    ∷ eqb (word (g .top) 2) (length (members g))
+    ∷ eqb (word (g .top) 3) (stopsOf (members g))
+    ∷ [])
 
 unfoldable pub soundTimetbls : Context → List Row → Bool
 soundTimetbls c rs = empty (front isHashRow rs) && passes (soundBlock c) seeing [] (groups isHashRow rs)
@@ -156,19 +156,19 @@ unfoldable pub soundRows : Context → Row → File → List Row → Bool
 soundRows c delivery f [] = true
 soundRows c delivery f (r ∷ rs) =
     allOf
-      (soundFirst f delivery r rs
-      ∷ soundLater c f rs
-      ∷ leb (firstSize + total (rowSize (c .days) f) rs) limit
-      ∷ [])
+    (soundFirst f delivery r rs
+    ∷ soundLater c f rs
+    ∷ leb (firstSize + total (rowSize (c .days) f) rs) limit
+    ∷ [])
 
 -- one table: its rows are sound, there are some where they are needed, and unused places are zero
 unfoldable pub soundTable : Context → PerFile (List Row) → File → List ℕ → Bool
 soundTable c R f t =
     allOf
-      (cond (needed (ltb 0 (length (R .xchanges))) f) (ltb 0 (length (of R f))) true
-      ∷ soundRows c (firstOf (R .delivery)) f (of R f)
-      ∷ allZero (drop (length (of R f) * rowWidth f) t)
-      ∷ [])
+    (cond (needed (ltb 0 (length (R .xchanges))) f) (ltb 0 (length (of R f))) true
+    ∷ soundRows c (firstOf (R .delivery)) f (of R f)
+    ∷ allZero (drop (length (of R f) * rowWidth f) t)
+    ∷ [])
 
 -- the eleven tables
 unfoldable pub sound : PerFile (List ℕ) → Bool
