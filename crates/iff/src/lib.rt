@@ -100,6 +100,12 @@ pub enum Stand {
     LastPlatform,
 }
 
+// Where a block's next line stands, and how many stops came before it.
+pub struct InBlock {
+    pub stand: Stand,
+    pub stops: u64,
+}
+
 // What a record's letter does there.
 pub enum Next {
     Goes(Stand),

@@ -2,12 +2,12 @@
 use Prim.Native.Nat.{ℕ, suc, _+_}
 use mathlib.Core.List.{List, [], _∷_, _++_, map}
 use mathlib.Core.Bool.{Bool, true, false, cond}
-use lib.ListN.{length, getD, take, drop}
+use lib.ListN.{length, take, drop}
 use lib.Dec.{eqb}
 use Rattle.iff.specs.Lists.{Group, groups, flat, front, position, total, has}
 use Rattle.iff.specs.Refusals.{firstFault, fine, answer}
 use Rattle.iff.specs.Files.{PerFile, of}
-use Rattle.iff.specs.Lines.{Line, lines, text, isHash, noLine}
+use Rattle.iff.specs.Lines.{lines, text, isHash}
 use Rattle.iff.specs.Tables.{Row, word, isHashRow, rowWidth, fill}
 use Rattle.iff.specs.declared.File.{File}
 use Rattle.iff.specs.declared.File.the-variants.{Delivery, Company, Country, Trnsmode, Timezone, Stations, Footnote, Timetbls, Changes, Xfootnote, Xchanges}
@@ -15,7 +15,7 @@ use Rattle.iff.specs.declared.Reason.the-variants.{NotOneBlock, NoService, NotS
 use Rattle.iff.specs.declared.Place.the-variants.{Nowhere}
 use Rattle.iff.specs.declared.Verdict.{Verdict}
 use Rattle.iff.specs.declared.Answer.{Answer}
-use Rattle.iff_rules.specs.Rows.{blockRows, Context, contextOf}
+use Rattle.iff_rules.specs.Rows.{blockRows, asBlock, Context, contextOf}
 use Rattle.iff_rules.specs.Load.{faultUnless, lengthVerdict, roomVerdict, blockVerdict, serviceOf}
 use Rattle.iff_rules.specs.Sound.{sound, rowsOfTables, rowSize, firstSize}
 use Rattle.iff_desk.specs.Parts.{isOneBlock}
@@ -33,10 +33,6 @@ rowsBefore k rs = front isHashRow rs ++ flat (take k (tableBlocks rs))
 
 abbrev pub rowsBehind : ℕ → List Row → List Row
 rowsBehind k rs = flat (drop (suc k) (tableBlocks rs))
-
--- a text as one block
-abbrev pub asBlock : List ℕ → Group Line
-asBlock b = record { top = getD (lines b) 0 noLine; rest = drop 1 (lines b) }
 
 -- "Test 1 counts the edited text by its lines' lengths."
 abbrev pub editedLength : Context → ℕ → List Row → List ℕ → ℕ

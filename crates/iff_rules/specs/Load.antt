@@ -24,6 +24,7 @@ use Rattle.iff.specs.declared.Verdict.the-variants.{Fine, Fault}
 use Rattle.iff.specs.declared.Answer.{Answer}
 use Rattle.iff.specs.declared.Stand.{Stand}
 use Rattle.iff.specs.declared.Stand.the-variants.{Start}
+use Rattle.iff.specs.declared.InBlock.{InBlock}
 use Rattle.iff_rules.specs.Order.{LineTests, lineTest, strayTests, known, tagOf, mayFollow, least, goes, isGoes, standAfter, finished, isStop}
 use Rattle.iff_rules.specs.Rows.{rowOf, firstRowOf, blockRows, blocksOf, rowsOfFiles, Context, contextOf, firstOf}
 use Rattle.iff_rules.specs.Meaning.{firstMeaning, meaning}
@@ -120,10 +121,6 @@ groupsVerdict c f ls =
     ∷ [])
 
 -- A LINE OF A TIMETBLS BLOCK, where it stands, after some stops, and after blocks of some services
-pub record InBlock : Type 0 where
-  pub stand : Stand
-  pub stops : ℕ
-
 unfoldable pub blockTest : Context → List ℕ → InBlock → Line → Test
 blockTest c seen st l =
     lineTest

@@ -7,7 +7,7 @@ use lib.Dec.{eqb}
 use Rattle.iff.specs.Bytes.{hash, at}
 use Rattle.iff.specs.Lists.{Group, groups, members, flat, total, kept}
 use Rattle.iff.specs.Files.{PerFile, of, perFile}
-use Rattle.iff.specs.Lines.{Line, lines, letter, isHash}
+use Rattle.iff.specs.Lines.{Line, lines, letter, isHash, noLine}
 use Rattle.iff.specs.Columns.{Field, on, firstFields, fieldsOf}
 use Rattle.iff.specs.Values.{words}
 use Rattle.iff.specs.Days.{span}
@@ -52,6 +52,10 @@ blocksRows (g ∷ gs) = blockRows g ++ blocksRows gs
 -- the blocks of a file: each opens with a line beginning `#` and runs to the next such or the end
 abbrev pub blocksOf : List Line → List (Group Line)
 blocksOf ls = groups isHash ls
+
+-- a text as one block
+abbrev pub asBlock : List ℕ → Group Line
+asBlock b = record { top = getD (lines b) 0 noLine; rest = drop 1 (lines b) }
 
 -- the rows after the first line
 abbrev pub laterRows : ℕ → File → List Line → List Row

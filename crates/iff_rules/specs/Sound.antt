@@ -13,13 +13,14 @@ use Rattle.iff.specs.Tables.{Row, word, tag, isHashRow, rowWidth, rowsIn, allZe
 use Rattle.iff.specs.declared.File.{File}
 use Rattle.iff.specs.declared.File.the-variants.{Delivery, Company, Country, Trnsmode, Timezone, Stations, Footnote, Timetbls, Changes, Xfootnote, Xchanges}
 use Rattle.iff.specs.declared.Stand.{Stand}
+use Rattle.iff.specs.declared.InBlock.{InBlock}
 use Rattle.iff_rules.specs.Order.{known, mayFollow, least, goes, isGoes, finished, isStop}
 use Rattle.iff_rules.specs.Rows.{flag, lineOne, Context, contextOf, firstOf}
 use Rattle.iff_rules.specs.Meaning.{firstMeaning, meaning}
 use Rattle.iff_rules.specs.Unique.{freshKey, freshInGroup}
 use Rattle.iff_rules.specs.References.{met}
 use Rattle.iff_rules.specs.Legs.{stopsOf, legs}
-use Rattle.iff_rules.specs.Load.{InBlock, blockStart, blockMoves}
+use Rattle.iff_rules.specs.Load.{blockStart, blockMoves}
 
 -- the entries of a list in turn, each in the state that those before it leave: all pass
 module _ {S A : Type 0} (ok : S → A → Bool) (next : S → A → S) where
