@@ -1,0 +1,4 @@
+pub mod LineLaws
+pub mod PictureLaws
+pub mod ValueLaws
+pub mod PackLaws

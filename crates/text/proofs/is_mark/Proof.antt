@@ -1,0 +1,16 @@
+-- `text::is_mark` meets its contract. Assumes nothing.
+use borrow.Author.Tests.{eq-eqb, ne-eqb}
+use Rattle.iff.specs.Bytes.{zeroOrOne}
+use Rattle.text.proofs.is_mark.Statement.{statement}
+use Rattle.text.proofs.is_mark.Tie as tie
+
+returns : tie.Need-returns
+unfolding zeroOrOne
+returns c = simp (eq-eqb _ _ (c .if1 .taken))
+
+returns-2 : tie.Need-returns-2
+unfolding zeroOrOne
+returns-2 c = simp (ne-eqb _ _ (c .if1 .left))
+
+pub is-mark-spec : {M : Type 1} → statement M
+is-mark-spec = tie.close (tie.spec returns returns-2)
