@@ -14,6 +14,8 @@ use Rattle.iff.specs.declared.Eol.{Eol}
 use Rattle.iff.specs.declared.Eol.the-variants.{Ended, Unended}
 use Rattle.iff.specs.Bytes.{cr}
 use Rattle.iff.specs.Lines.{Line, crlf, before, lines, width, firstLine, eolAt}
+use Rattle.text.specs.Spans.{LineAt}
+use Rattle.text.specs.declared.LineSpan.{LineSpan}
 
 -- the definitions' equations, to rewrite with while they stay shut
 pub lines-nil : lines [] ≡ []
@@ -135,6 +137,22 @@ module _ (t : List ℕ) (at : ℕ) (h : at < length t) where
 pub lines-end : (t : List ℕ) (at : ℕ) → length t ≤ at → lines (drop at t) ≡ []
 lines-end t at h = ap lines (drop-of-length-le t h) ∙ lines-nil
 
+-- the same as one record of facts, for every index into the line
+module _ (t : List ℕ) (at : ℕ) (h : at < length t) where
+  pub span-ended : (e : ℕ) → eolAt t at ≡ Ended e → LineAt t at (record { end = e; ended = true; next = e + 2 })
+  span-ended e q =
+      let a = after-ended t at h e q in
+      record { low = a .low; top = omega arith; more = omega arith; high = a .high; head = a .head }
+
+  pub span-unended : eolAt t at ≡ Unended → LineAt t at (record { end = length t; ended = false; next = length t })
+  span-unended q =
+      record {
+        low = omega arith;
+        top = omega arith;
+        more = h;
+        high = omega arith;
+        head = after-unended t at h q ∙ rw (rest-part t at, lines-end t (length t) (omega arith));
+      }
 -- a loop that has counted n lines, and stands at `at`
 abbrev pub Counted : List ℕ → ℕ → ℕ → Type 0
 Counted t n at = (n ≤ at) × (at ≤ length t) × (n + length (lines (drop at t)) ≡ length (lines t))

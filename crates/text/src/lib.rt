@@ -8,6 +8,7 @@ ghost use Rattle.iff.specs.Lists.{all, same};
 ghost use Rattle.iff.specs.Bytes.{allowed, digit, zeroOrOne};
 ghost use Rattle.iff.specs.Lines.{lines, crlf, eolAt};
 ghost use Rattle.iff.specs.Columns.{column, fits, figure, figures};
+ghost use Rattle.text.specs.Spans.{LineAt};
 ghost use Rattle.iff.specs.Values.{value, numberOf, codeOf, allBlank, isWildcard, companyOrAny, bits};
 
 // Single bytes.
@@ -76,6 +77,32 @@ pub fn line_end(text: &[u8], at: usize) -> iff::Eol
         i += 1;
     }
     iff::Eol::Unended
+}
+
+// A line where it stands: its body is `at..end`, CR LF ends it or nothing does, and the next line begins at `next`.
+pub struct LineSpan {
+    pub end: usize,
+    pub ended: bool,
+    pub next: usize,
+}
+
+// The line that starts at `at`.
+pub fn line_at(text: &[u8], at: usize) -> LineSpan
+    requires { ⌜ at < length (now text) ⌝ }
+    ensures { λ r. ⌜ LineAt (now (text .entry)) at r ⌝ }
+{
+    match line_end(text, at) {
+        iff::Eol::Ended(e) => LineSpan {
+            end: e,
+            ended: true,
+            next: e + 2,
+        },
+        iff::Eol::Unended => LineSpan {
+            end: text.len(),
+            ended: false,
+            next: text.len(),
+        },
+    }
 }
 
 // A remainder without CR LF counts as a line.
