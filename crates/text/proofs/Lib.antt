@@ -1,4 +1,5 @@
 pub mod LineLaws
+pub mod CutLaws
 pub mod PictureLaws
 pub mod ValueLaws
 pub mod PackLaws

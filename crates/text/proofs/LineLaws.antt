@@ -22,7 +22,7 @@ pub lines-nil : lines [] ≡ []
 unfolding lines
 lines-nil = refl
 
-lines-two : (b c : ℕ) (s : List ℕ) → lines (b ∷ c ∷ s) ≡ cond (crlf b c) (record { body = []; ended = true } ∷ lines s) (before b (lines (c ∷ s)))
+pub lines-two : (b c : ℕ) (s : List ℕ) → lines (b ∷ c ∷ s) ≡ cond (crlf b c) (record { body = []; ended = true } ∷ lines s) (before b (lines (c ∷ s)))
 unfolding lines
 lines-two b c s = refl
 
@@ -153,6 +153,7 @@ module _ (t : List ℕ) (at : ℕ) (h : at < length t) where
         high = omega arith;
         head = after-unended t at h q ∙ rw (rest-part t at, lines-end t (length t) (omega arith));
       }
+
 -- a loop that has counted n lines, and stands at `at`
 abbrev pub Counted : List ℕ → ℕ → ℕ → Type 0
 Counted t n at = (n ≤ at) × (at ≤ length t) × (n + length (lines (drop at t)) ≡ length (lines t))
