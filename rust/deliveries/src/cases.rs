@@ -1,0 +1,122 @@
+//! Cases for a load: eleven files with rooms in lines.
+
+use crate::damage::{damage, lines_in};
+use crate::rng::Rng;
+use crate::shape::Shape;
+use crate::world::{self, World};
+use crate::FILES;
+
+/// A delivery, an empty file being absent, and the room for each file.
+#[derive(Clone, Debug)]
+pub struct Case {
+    pub files: [Vec<u8>; FILES],
+    pub rooms: [usize; FILES],
+}
+
+impl Case {
+    fn new(rng: &mut Rng, files: [Vec<u8>; FILES]) -> Case {
+        let exact = rng.percent(20);
+        let rooms = files.each_ref().map(|file| lines_in(file) + if exact { 0 } else { rng.below(40) });
+        Case { files, rooms }
+    }
+
+    pub fn texts(&self) -> [&[u8]; FILES] {
+        self.files.each_ref().map(Vec::as_slice)
+    }
+}
+
+/// A small sound delivery and what it is made of.
+pub fn sound(seed: u64) -> (World, Case) {
+    let mut rng = Rng::new(seed);
+    let shape = Shape::small(&mut rng);
+    shaped(&mut rng, &shape)
+}
+
+fn shaped(rng: &mut Rng, shape: &Shape) -> (World, Case) {
+    let (world, files) = world::make(rng, shape);
+    let case = Case::new(rng, files);
+    (world, case)
+}
+
+/// A small delivery with one to three damages; by chance it may still be sound.
+pub fn damaged(seed: u64) -> Case {
+    let (_, mut case) = sound(seed);
+    let mut rng = Rng::new(!seed);
+    let damages = *rng.pick(&[1, 1, 1, 2, 3]);
+    for _ in 0..damages {
+        damage(&mut rng, &mut case);
+    }
+    case
+}
+
+/// A sound delivery with this many services, some 20 lines each.
+pub fn large(seed: u64, services: usize, rising: bool) -> (World, Case) {
+    shaped(&mut Rng::new(seed), &Shape::large(services, rising))
+}
+
+/// A border that document 01 draws.
+#[derive(Clone, Copy, Debug, PartialEq, Eq)]
+pub enum Limit {
+    Stops(usize),
+    Modes(usize),
+    Days(usize),
+    /// Rooms that are just enough.
+    RoomsExact,
+    /// Rooms just enough but for one file, which lacks one line.
+    RoomShort(usize),
+}
+
+/// Both sides of every border.
+pub fn limits() -> Vec<Limit> {
+    use Limit::*;
+    let mut limits = vec![
+        Stops(2),
+        Stops(998),
+        Stops(999),
+        Modes(64),
+        Modes(65),
+        Days(1),
+        Days(800),
+        Days(801),
+        RoomsExact,
+    ];
+    limits.extend((0..FILES).map(RoomShort));
+    limits
+}
+
+/// A delivery, sound in all else, that stands at the limit.
+pub fn limit(seed: u64, limit: Limit) -> Case {
+    let mut rng = Rng::new(seed);
+    let mut shape = Shape::small(&mut rng);
+    match limit {
+        Limit::Stops(count) => {
+            shape.services = 1..=2;
+            shape.stops = count..=count;
+        }
+        Limit::Modes(count) => shape.modes = count..=count,
+        Limit::Days(count) => shape.days = count..=count,
+        Limit::RoomsExact => (),
+        // A room of 0 suffices for an absent file.
+        Limit::RoomShort(_) => {
+            (shape.changes, shape.xfootnotes, shape.xchanges) = (true, true, true);
+        }
+    }
+    let (_, mut case) = shaped(&mut rng, &shape);
+    if let Limit::RoomsExact | Limit::RoomShort(_) = limit {
+        case.rooms = case.files.each_ref().map(|file| lines_in(file));
+    }
+    if let Limit::RoomShort(file) = limit {
+        case.rooms[file] -= 1;
+    }
+    case
+}
+
+/// Any of these: sound, at a limit or damaged.
+pub fn mixed(seed: u64) -> Case {
+    let mut rng = Rng::new(seed.wrapping_mul(0xD134_2543_DE82_EF95));
+    match rng.below(100) {
+        0..=34 => sound(seed).1,
+        35..=37 => limit(seed, *rng.pick(&limits())),
+        _ => damaged(seed),
+    }
+}

@@ -1,0 +1,75 @@
+//! How much of everything a delivery has.
+
+use std::ops::RangeInclusive;
+
+use crate::rng::Rng;
+
+/// How many of each a delivery has, and whether its keys rise.
+#[derive(Clone, Debug)]
+pub struct Shape {
+    pub days: RangeInclusive<usize>,
+    pub companies: RangeInclusive<usize>,
+    pub countries: RangeInclusive<usize>,
+    pub modes: RangeInclusive<usize>,
+    pub zones: RangeInclusive<usize>,
+    pub stations: RangeInclusive<usize>,
+    pub footnotes: RangeInclusive<usize>,
+    pub services: RangeInclusive<usize>,
+    pub stops: RangeInclusive<usize>,
+    /// Stations in CHANGES, and in XCHANGES.
+    pub change_stations: RangeInclusive<usize>,
+    /// Rows for each of them.
+    pub change_rows: RangeInclusive<usize>,
+    pub rising: bool,
+    /// Whether the last three files are there at all.
+    pub changes: bool,
+    pub xfootnotes: bool,
+    pub xchanges: bool,
+}
+
+impl Shape {
+    /// A few of everything.
+    pub fn small(rng: &mut Rng) -> Shape {
+        let xchanges = rng.percent(70);
+        Shape {
+            days: 1..=if rng.percent(10) { 800 } else { 40 },
+            companies: 1..=4,
+            countries: 1..=3,
+            modes: 1..=5,
+            zones: 1..=3,
+            stations: 2..=8,
+            footnotes: 1..=5,
+            services: if rng.percent(4) { 0..=0 } else { 1..=6 },
+            stops: 2..=7,
+            change_stations: 0..=6,
+            change_rows: 0..=8,
+            rising: rng.percent(50),
+            changes: rng.percent(70),
+            xfootnotes: xchanges || rng.percent(30),
+            xchanges,
+        }
+    }
+
+    /// A national timetable with this many services, some 20 lines each.
+    pub fn large(services: usize, rising: bool) -> Shape {
+        let stations = (services / 50).clamp(50, 2_000);
+        let footnotes = (services / 30).clamp(30, 4_000);
+        Shape {
+            days: 364..=364,
+            companies: 40..=40,
+            countries: 20..=20,
+            modes: 30..=30,
+            zones: 3..=3,
+            stations: stations..=stations,
+            footnotes: footnotes..=footnotes,
+            services: services..=services,
+            stops: 2..=16,
+            change_stations: stations / 4..=stations / 4,
+            change_rows: 0..=20,
+            rising,
+            changes: true,
+            xfootnotes: true,
+            xchanges: true,
+        }
+    }
+}
