@@ -1,0 +1,1 @@
+// Document 01's definitions run on cases: see specs/.
