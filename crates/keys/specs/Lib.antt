@@ -1,0 +1,4 @@
+pub mod Lookup
+pub mod Runs
+pub mod Agree
+pub mod Blocks

@@ -1,0 +1,479 @@
+// What other files name, looked up in their tables, and duplicates told.
+ghost use mathlib.Core.Path.{_≡_};
+ghost use mathlib.Core.List.{[], _∷_};
+ghost use mathlib.Core.Bool.{true, not, _&&_, _||_};
+ghost use Prim.Native.Nat.{_+_, _*_, _<_, _≤_};
+ghost use lib.Dec.{eqb};
+ghost use lib.ListN.{length};
+ghost use Rattle.iff.specs.Lists.{has, any};
+ghost use Rattle.iff.specs.Tables.{rowAt, rowWidth, keyTag, keyWord};
+ghost use Rattle.iff.specs.declared.File.the-variants.{Company, Trnsmode, Stations, Timetbls, Changes, Xchanges};
+ghost use Rattle.iff_rules.specs.Rows.{Context};
+ghost use Rattle.iff_rules.specs.Unique.{overlap, sameWords, clash};
+ghost use Rattle.iff_rules.specs.References.{anyCompany, anyMode, metInBlock, met};
+ghost use Rattle.keys.specs.Lookup.{keysIn, strideOf, RisingKeys, KeysAt, CountOf};
+ghost use Rattle.keys.specs.Runs.{noKeys, stillRises, stepRun, runOf};
+ghost use Rattle.keys.specs.Agree.{BlockKeys, StationKeys, ChangeKeys, ExceptionKeys, GroupKeys, isPlainFile, isGroupFile, metSide, metSides};
+ghost use Rattle.keys.specs.Blocks.{rowsBetween};
+
+const HASH: u64 = 35;
+
+const PERCENT: u64 = 37;
+
+const AMPERSAND: u64 = 38;
+
+const ASTERISK: u64 = 42;
+
+const DASH: u64 = 45;
+
+const QUESTION: u64 = 63;
+
+// `*` and blanks, packed as a company's three bytes and as a mode's four.
+const ANY_COMPANY: u64 = 2760736;
+
+const ANY_MODE: u64 = 706748448;
+
+// KEYS
+
+// The first word of the rows that name something.
+fn key_tag(file: iff::File) -> u64
+    ensures { λ r. ⌜ r ≡ keyTag file ⌝ }
+{
+    match file {
+        iff::File::Delivery => 1,
+        iff::File::Company => 1,
+        iff::File::Country => 1,
+        iff::File::Trnsmode => 1,
+        iff::File::Timezone => HASH,
+        iff::File::Stations => 1,
+        iff::File::Footnote => HASH,
+        iff::File::Timetbls => HASH,
+        iff::File::Changes => HASH,
+        iff::File::Xfootnote => HASH,
+        iff::File::Xchanges => HASH,
+    }
+}
+
+// The word of such a row that is the name.
+pub fn key_word(file: iff::File) -> usize
+    ensures { λ r. ⌜ r ≡ keyWord file ⌝ }
+{
+    match file {
+        iff::File::Delivery => 1,
+        iff::File::Company => 1,
+        iff::File::Country => 1,
+        iff::File::Trnsmode => 1,
+        iff::File::Timezone => 1,
+        iff::File::Stations => 2,
+        iff::File::Footnote => 1,
+        iff::File::Timetbls => 1,
+        iff::File::Changes => 1,
+        iff::File::Xfootnote => 1,
+        iff::File::Xchanges => 1,
+    }
+}
+
+// A file's table names this key.
+pub fn names(file: iff::File, t: &[u64], key: u64) -> bool
+    ensures { λ r. ⌜ r ≡ has key (keysIn file (now (t .entry))) ⌝ }
+{
+    let w = tables::row_width(file);
+    let tag = key_tag(file);
+    let col = key_word(file);
+    tables::has_key(t, w, tag, col, key)
+}
+
+// Every how many rows a key stands, after the first row; 0 where there is no such distance.
+fn stride(file: iff::File) -> usize
+    ensures { λ r. ⌜ r ≡ strideOf file ⌝ }
+{
+    match file {
+        iff::File::Delivery => 1,
+        iff::File::Company => 1,
+        iff::File::Country => 1,
+        iff::File::Trnsmode => 1,
+        iff::File::Timezone => 0,
+        iff::File::Stations => 1,
+        iff::File::Footnote => 2,
+        iff::File::Timetbls => 0,
+        iff::File::Changes => 0,
+        iff::File::Xfootnote => 2,
+        iff::File::Xchanges => 0,
+    }
+}
+
+// How many keys stand at that distance in some rows, the first of which has none.
+fn key_count(rows: usize, every: usize) -> usize
+    requires { ⌜ (0 < every) × (every < 3) ⌝ }
+    ensures { λ r. ⌜ CountOf rows every r ⌝ }
+{
+    if every == 2 {
+        return rows / 2;
+    }
+    if rows == 0 {
+        return 0;
+    }
+    rows - 1
+}
+
+// A search by halves among keys that rise and stand at even distances.
+fn halved(file: iff::File, t: &[u64], rows: usize, every: usize, count: usize, key: u64) -> bool
+    requires { ⌜ KeysAt file rows every count (now t) ⌝ }
+    ensures { λ r. ⌜ r ≡ has key (keysIn file (now (t .entry))) ⌝ }
+{
+    let w = tables::row_width(file);
+    let col = key_word(file);
+    let mut low = 0;
+    let mut high = count;
+    while low < high {
+        let middle = low + (high - low) / 2;
+        let found = tables::word_at(t, w, 1 + every * middle, col);
+        if found == key {
+            return true;
+        }
+        if found < key {
+            low = middle + 1;
+        } else {
+            high = middle;
+        }
+    }
+    false
+}
+
+// The same answer as `names`, for callers who know that the keys rise: in few steps where they stand at even distances.
+pub fn names_rising(file: iff::File, t: &[u64], rows: usize, key: u64) -> bool
+    requires { ⌜ RisingKeys file rows (now t) ⌝ }
+    ensures { λ r. ⌜ r ≡ has key (keysIn file (now (t .entry))) ⌝ }
+{
+    let every = stride(file);
+    if every == 0 {
+        return names(file, t, key);
+    }
+    let count = key_count(rows, every);
+    halved(file, t, rows, every, count, key)
+}
+
+// RUNS OF KEYS
+
+// What is remembered of the keys of a file so far: whether there are any, whether they rise, and the last.
+pub struct KeyRun {
+    pub any: bool,
+    pub rises: bool,
+    pub last: u64,
+}
+
+// Before the first key.
+pub fn no_keys() -> KeyRun
+    ensures { λ r. ⌜ r ≡ noKeys ⌝ }
+{
+    KeyRun {
+        any: false,
+        rises: true,
+        last: 0,
+    }
+}
+
+// Whether the keys rise with this one after them.
+fn still_rises(run: KeyRun, key: u64) -> bool
+    ensures { λ r. ⌜ r ≡ stillRises run key ⌝ }
+{
+    if run.any {
+        if run.rises {
+            return run.last < key;
+        }
+        return false;
+    }
+    run.rises
+}
+
+// With one key more.
+pub fn next_run(run: KeyRun, key: u64) -> KeyRun
+    ensures { λ r. ⌜ r ≡ stepRun run key ⌝ }
+{
+    let rises = still_rises(run, key);
+    KeyRun {
+        any: true,
+        rises: rises,
+        last: key,
+    }
+}
+
+// A key that the table does not have yet. While keys rise, one above the last is new without a search.
+pub fn is_fresh(file: iff::File, run: KeyRun, t: &[u64], key: u64) -> bool
+    requires { ⌜ run ≡ runOf (keysIn file (now t)) ⌝ }
+    ensures { λ r. ⌜ r ≡ not (has key (keysIn file (now (t .entry)))) ⌝ }
+{
+    if still_rises(run, key) {
+        return true;
+    }
+    !names(file, t, key)
+}
+
+// REFERENCES
+
+// What a line of a TIMETBLS block names is there. The attribute's own code is not looked up.
+pub fn met_in_block(
+    row: &[u64],
+    companies: &[u64],
+    modes: &[u64],
+    stations: &[u64],
+    footnotes: &[u64],
+) -> bool
+    requires { ⌜ 5 ≤ length (now row) ⌝ }
+    ensures { λ r. ⌜ ((c : Context) → BlockKeys c (now (companies .entry)) (now (modes .entry)) (now (stations .entry)) (now (footnotes .entry)) → r ≡ metInBlock c (now (row .entry))) ⌝ }
+{
+    let tag = row[0];
+    let name = row[1];
+    let footnote = row[4];
+    if tag == HASH {
+        return true;
+    }
+    if tag == PERCENT {
+        return names(iff::File::Company, companies, name);
+    }
+    if tag == DASH {
+        return names(iff::File::Footnote, footnotes, name);
+    }
+    if tag == AMPERSAND {
+        return names(iff::File::Trnsmode, modes, name);
+    }
+    if tag == ASTERISK {
+        return names(iff::File::Footnote, footnotes, footnote);
+    }
+    if tag == QUESTION {
+        return names(iff::File::Footnote, footnotes, name);
+    }
+    names(iff::File::Stations, stations, name)
+}
+
+// A station's country and zone are there.
+pub fn met_station(row: &[u64], countries: &[u64], zones: &[u64]) -> bool
+    requires { ⌜ length (now row) ≡ rowWidth Stations ⌝ }
+    ensures { λ r. ⌜ ((c : Context) → StationKeys c (now (countries .entry)) (now (zones .entry)) → r ≡ met c Stations (now (row .entry))) ⌝ }
+{
+    if names(iff::File::Country, countries, row[4]) {
+        return names(iff::File::Timezone, zones, row[5]);
+    }
+    false
+}
+
+// Both services of a pair are there.
+fn met_pair(from: u64, to: u64, services: &[u64]) -> bool
+    ensures { λ r. ⌜ r ≡ (has from (keysIn Timetbls (now (services .entry))) && has to (keysIn Timetbls (now (services .entry)))) ⌝ }
+{
+    if names(iff::File::Timetbls, services, from) {
+        return names(iff::File::Timetbls, services, to);
+    }
+    false
+}
+
+// The station of a group of CHANGES is there, and the services of a pair.
+pub fn met_change(row: &[u64], stations: &[u64], services: &[u64]) -> bool
+    requires { ⌜ length (now row) ≡ rowWidth Changes ⌝ }
+    ensures { λ r. ⌜ ((c : Context) → ChangeKeys c (now (stations .entry)) (now (services .entry)) → r ≡ met c Changes (now (row .entry))) ⌝ }
+{
+    if row[0] == HASH {
+        return names(iff::File::Stations, stations, row[1]);
+    }
+    met_pair(row[1], row[2], services)
+}
+
+// A company that an exception names; the wildcard is in no table.
+fn met_company(company: u64, companies: &[u64]) -> bool
+    ensures { λ r. ⌜ r ≡ (eqb company anyCompany || has company (keysIn Company (now (companies .entry)))) ⌝ }
+{
+    if company == ANY_COMPANY {
+        return true;
+    }
+    names(iff::File::Company, companies, company)
+}
+
+// A mode that an exception names, likewise.
+fn met_mode(mode: u64, modes: &[u64]) -> bool
+    ensures { λ r. ⌜ r ≡ (eqb mode anyMode || has mode (keysIn Trnsmode (now (modes .entry)))) ⌝ }
+{
+    if mode == ANY_MODE {
+        return true;
+    }
+    names(iff::File::Trnsmode, modes, mode)
+}
+
+// One side of an exception: the service changed from, or the one changed to.
+fn met_side(company: u64, mode: u64, companies: &[u64], modes: &[u64]) -> bool
+    ensures { λ r. ⌜ r ≡ metSide (now (companies .entry)) (now (modes .entry)) company mode ⌝ }
+{
+    if met_company(company, companies) {
+        return met_mode(mode, modes);
+    }
+    false
+}
+
+// Both sides of an exception, and its footnote, which is in XFOOTNOTE.
+fn met_sides(row: &[u64], companies: &[u64], modes: &[u64], xfootnotes: &[u64]) -> bool
+    requires { ⌜ length (now row) ≡ rowWidth Xchanges ⌝ }
+    ensures { λ r. ⌜ r ≡ metSides (now (companies .entry)) (now (modes .entry)) (now (xfootnotes .entry)) (now (row .entry)) ⌝ }
+{
+    if met_side(row[1], row[2], companies, modes) {
+        if met_side(row[3], row[4], companies, modes) {
+            return names(iff::File::Xfootnote, xfootnotes, row[6]);
+        }
+        return false;
+    }
+    false
+}
+
+// The station of a group of XCHANGES is there, and what an exception names.
+pub fn met_exception(
+    row: &[u64],
+    companies: &[u64],
+    modes: &[u64],
+    stations: &[u64],
+    xfootnotes: &[u64],
+) -> bool
+    requires { ⌜ length (now row) ≡ rowWidth Xchanges ⌝ }
+    ensures { λ r. ⌜ ((c : Context) → ExceptionKeys c (now (companies .entry)) (now (modes .entry)) (now (stations .entry)) (now (xfootnotes .entry)) → r ≡ met c Xchanges (now (row .entry))) ⌝ }
+{
+    if row[0] == HASH {
+        return names(iff::File::Stations, stations, row[1]);
+    }
+    met_sides(row, companies, modes, xfootnotes)
+}
+
+// What a row of a file without record letters names is there. Only STATIONS names anything.
+pub fn met_plain(file: iff::File, row: &[u64], countries: &[u64], zones: &[u64]) -> bool
+    requires { ⌜ (isPlainFile file ≡ true) × (length (now row) ≡ rowWidth file) ⌝ }
+    ensures { λ r. ⌜ ((c : Context) → StationKeys c (now (countries .entry)) (now (zones .entry)) → r ≡ met c file (now (row .entry))) ⌝ }
+{
+    match file {
+        iff::File::Stations => met_station(row, countries, zones),
+        iff::File::Delivery => true,
+        iff::File::Company => true,
+        iff::File::Country => true,
+        iff::File::Trnsmode => true,
+        iff::File::Timezone => true,
+        iff::File::Footnote => true,
+        iff::File::Timetbls => true,
+        iff::File::Changes => true,
+        iff::File::Xfootnote => true,
+        iff::File::Xchanges => true,
+    }
+}
+
+// What a row of a file of groups names is there. Zones and footnotes name nothing.
+pub fn met_group(
+    file: iff::File,
+    row: &[u64],
+    companies: &[u64],
+    modes: &[u64],
+    stations: &[u64],
+    services: &[u64],
+    xfootnotes: &[u64],
+) -> bool
+    requires { ⌜ (isGroupFile file ≡ true) × (length (now row) ≡ rowWidth file) ⌝ }
+    ensures { λ r. ⌜ ((c : Context) → GroupKeys c (now (companies .entry)) (now (modes .entry)) (now (stations .entry)) (now (services .entry)) (now (xfootnotes .entry)) → r ≡ met c file (now (row .entry))) ⌝ }
+{
+    match file {
+        iff::File::Changes => met_change(row, stations, services),
+        iff::File::Xchanges => met_exception(row, companies, modes, stations, xfootnotes),
+        iff::File::Delivery => true,
+        iff::File::Company => true,
+        iff::File::Country => true,
+        iff::File::Trnsmode => true,
+        iff::File::Timezone => true,
+        iff::File::Stations => true,
+        iff::File::Footnote => true,
+        iff::File::Timetbls => true,
+        iff::File::Xfootnote => true,
+    }
+}
+
+// WITHIN A GROUP
+
+// Two periods share a day.
+fn overlaps(r: &[u64], e: &[u64]) -> bool
+    requires { ⌜ (4 ≤ length (now r)) × (4 ≤ length (now e)) ⌝ }
+    ensures { λ b. ⌜ b ≡ overlap (now (r .entry)) (now (e .entry)) ⌝ }
+{
+    let first = r[2];
+    let last = r[3];
+    let from = e[2];
+    let to = e[3];
+    if calendar::is_period(first, to) {
+        return calendar::is_period(from, last);
+    }
+    false
+}
+
+// The same pair of services.
+fn same_pair(r: &[u64], e: &[u64]) -> bool
+    requires { ⌜ (3 ≤ length (now r)) × (3 ≤ length (now e)) ⌝ }
+    ensures { λ b. ⌜ b ≡ sameWords (1 ∷ 2 ∷ []) (now (r .entry)) (now (e .entry)) ⌝ }
+{
+    if r[1] == e[1] {
+        return r[2] == e[2];
+    }
+    false
+}
+
+// The same four keys and footnote.
+fn same_exception(r: &[u64], e: &[u64]) -> bool
+    requires { ⌜ (7 ≤ length (now r)) × (7 ≤ length (now e)) ⌝ }
+    ensures { λ b. ⌜ b ≡ sameWords (1 ∷ 2 ∷ 3 ∷ 4 ∷ 6 ∷ []) (now (r .entry)) (now (e .entry)) ⌝ }
+{
+    if same_pair(r, e) {
+        if r[3] == e[3] {
+            if r[4] == e[4] {
+                return r[6] == e[6];
+            }
+            return false;
+        }
+        return false;
+    }
+    false
+}
+
+// Two rows of one group share what no two of them may.
+pub fn clashes(file: iff::File, r: &[u64], e: &[u64]) -> bool
+    requires { ⌜ (length (now r) ≡ rowWidth file) × (length (now e) ≡ rowWidth file) ⌝ }
+    ensures { λ b. ⌜ b ≡ clash file (now (r .entry)) (now (e .entry)) ⌝ }
+{
+    match file {
+        iff::File::Timezone => overlaps(r, e),
+        iff::File::Changes => same_pair(r, e),
+        iff::File::Xchanges => same_exception(r, e),
+        iff::File::Delivery => false,
+        iff::File::Company => false,
+        iff::File::Country => false,
+        iff::File::Trnsmode => false,
+        iff::File::Stations => false,
+        iff::File::Footnote => false,
+        iff::File::Timetbls => false,
+        iff::File::Xfootnote => false,
+    }
+}
+
+// The row clashes with row `i` of a table.
+fn clashes_at(file: iff::File, t: &[u64], w: usize, i: usize, row: &[u64]) -> bool
+    requires { ⌜ (w ≡ rowWidth file) × (i * w + w ≤ length (now t)) × (length (now row) ≡ w) ⌝ }
+    ensures { λ b. ⌜ b ≡ clash file (now (row .entry)) (rowAt w (now (t .entry)) i) ⌝ }
+{
+    let from = i * w;
+    let to = from + w;
+    clashes(file, row, &t[from..to])
+}
+
+// The row clashes with none of the rows from `from` on and before `to`.
+pub fn fresh_in_group(file: iff::File, t: &[u64], from: usize, to: usize, row: &[u64]) -> bool
+    requires { ⌜ (to * rowWidth file ≤ length (now t)) × (length (now row) ≡ rowWidth file) ⌝ }
+    ensures { λ b. ⌜ b ≡ not (any (clash file (now (row .entry))) (rowsBetween (rowWidth file) (now (t .entry)) from to)) ⌝ }
+{
+    let w = tables::row_width(file);
+    let mut i = from;
+    while i < to {
+        if clashes_at(file, t, w, i, row) {
+            return false;
+        }
+        i += 1;
+    }
+    true
+}
