@@ -1,0 +1,7 @@
+pub mod FieldLaws
+pub mod VectorLaws
+pub mod RowLaws
+pub mod FileLaws
+pub mod ByteLaws
+pub mod ColumnLaws
+pub mod LineLaws

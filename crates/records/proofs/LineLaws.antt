@@ -1,0 +1,83 @@
+-- Laws of one line of one record, by whether the record is the vector or has fixed columns. Assumes nothing.
+use Prim.Native.Nat.{ℕ, suc, _+_, _-_, _≤_, _<_}
+use mathlib.Core.Path.{_≡_, refl, ap, sym, _∙_}
+use mathlib.Core.List.{List, [], _∷_}
+use mathlib.Core.Bool.{Bool, true, false, _&&_}
+use native.Mathlib.Omega.{arith}
+use lib.ListN.{length, take, drop, replicate}
+use lib.Seq.{slice}
+use Rattle.text.proofs.PictureLaws.{and-right}
+use Rattle.iff.specs.Bytes.{zeroOrOne}
+use Rattle.iff.specs.Lists.{all}
+use Rattle.iff.specs.Refusals.{orTest, unless}
+use Rattle.iff.specs.Columns.{fits, picture, laid, recordFields}
+use Rattle.iff.specs.Values.{readable, words, wordCount, vectorWords, vectorWidth}
+use Rattle.iff.specs.Tables.{padded}
+use Rattle.iff.specs.declared.Record.{Record}
+use Rattle.iff.specs.declared.Record.the-variants.{FootnoteVector}
+use Rattle.iff.specs.declared.Reason.the-variants.{Layout, Value}
+use Rattle.iff.specs.declared.Test.{Test}
+use Rattle.iff.specs.declared.Test.the-variants.{Passes, Fails}
+use Rattle.records.specs.declared.Spans.{Spans}
+use Rattle.records.specs.Layouts.{lineOf, pictures, fields, spansOf, readableIn}
+use Rattle.records.specs.Facts.{Legible, Entries, SpansIn}
+use Rattle.records.proofs.FieldLaws.{Placed, fixed-place, is-vector, entries-in, spans-in, readable-in, words-in}
+use Rattle.records.proofs.VectorLaws.{vector-picture, vector-readable, vector-words-in}
+
+module _ (days : ℕ) (r : Record) (s : Spans) (e : s ≡ spansOf r) (body : List ℕ) where
+  -- LAYOUT
+  pub laid-vector : (ended : Bool) → ended ≡ true → s .1 ≡ 0 → fits body (replicate days 109) ≡ laid (lineOf body ended) (recordFields days r)
+  laid-vector ended t z = rw (t, is-vector days r s e z, vector-picture)
+
+  pub laid-fixed : (ended : Bool) → ended ≡ true → (s .1 ≡ 0 → ⊥)
+      → fits body (take (s .1 - s .0) (drop (s .0) pictures)) ≡ laid (lineOf body ended) (recordFields days r)
+  laid-fixed ended t z = rw (t, fixed-place days r s e z .pictured)
+
+  -- FIGURES AND CODES
+  module _ (f : fits body (picture (recordFields days r)) ≡ true) where
+    -- so it fits the vector's, if it is one
+    as-vector : s .1 ≡ 0 → fits body (picture (recordFields days FootnoteVector)) ≡ true
+    as-vector z = rw (is-vector days r s e z) at f
+
+    pub read-vector : s .1 ≡ 0 → all zeroOrOne body ≡ readable body (recordFields days r)
+    read-vector z = vector-readable days body (as-vector z) ∙ ap (readable body) (sym (is-vector days r s e z))
+
+    pub read-spans : (s .1 ≡ 0 → ⊥) → SpansIn s body
+    read-spans z = spans-in days r s (fixed-place days r s e z) body f
+
+    pub read-fixed : (s .1 ≡ 0 → ⊥) → readableIn s body ≡ readable body (recordFields days r)
+    read-fixed z = readable-in days r s (fixed-place days r s e z) body
+
+  -- ROWS
+  module _ (room : ℕ) (p : Legible days r body room) where
+    pub marks-legible : s .1 ≡ 0 → (all zeroOrOne body ≡ true) × (13 < room)
+    unfolding recordFields
+    marks-legible z = (
+      read-vector (p .fitting) z ∙ p .reading,
+      omega (arith, p .roomy, ap wordCount (is-vector days r s e z)),
+    )
+
+    pub marks-row : s .1 ≡ 0 → (n tag : ℕ) → padded room (tag ∷ vectorWords vectorWidth body) ≡ padded room (tag ∷ words n body (recordFields days r))
+    marks-row z n tag =
+        ap (λ (ws : List ℕ). padded room (tag ∷ ws))
+        (sym (ap (words n body) (is-vector days r s e z) ∙ vector-words-in days body (as-vector (p .fitting) z) n))
+
+    pub fields-legible : (s .1 ≡ 0 → ⊥) → Entries (s .2) (s .3) body × (s .3 - s .2 < room)
+    fields-legible z =
+        let q = fixed-place days r s e z in
+        (entries-in days r s q body (p .fitting), omega (arith, q .counted, p .roomy))
+
+    pub fields-row : (s .1 ≡ 0 → ⊥) → (n tag : ℕ) → padded room (tag ∷ words n body (slice (s .2) (s .3) fields)) ≡ padded room (tag ∷ words n body (recordFields days r))
+    fields-row z n tag = ap (λ (ws : List ℕ). padded room (tag ∷ ws)) (words-in days r s (fixed-place days r s e z) body n)
+
+-- FOR CALLERS: a line that passes layout and value can be put
+pub layout-passes : (days : ℕ) (r : Record) (body : List ℕ) (ended : Bool)
+    → Passes ≡ orTest (unless (laid (lineOf body ended) (recordFields days r)) Layout) (unless (readable body (recordFields days r)) Value)
+    → (room : ℕ) → suc (wordCount (recordFields days r)) ≤ room → Legible days r body room
+layout-passes days r body ended q room h = go (laid (lineOf body ended) (recordFields days r)) (readable body (recordFields days r)) refl refl q
+  where
+    go : (a b : Bool) → laid (lineOf body ended) (recordFields days r) ≡ a → readable body (recordFields days r) ≡ b
+        → Passes ≡ orTest (unless a Layout) (unless b Value) → Legible days r body room
+    go true true x y q′ = record { fitting = and-right ended _ x; reading = y; roomy = h }
+    go true false x y q′ = absurd (let z : _≡_ {A = ℕ} 0 1 = cc in omega arith)
+    go false b x y q′ = absurd (let z : _≡_ {A = ℕ} 0 1 = cc in omega arith)

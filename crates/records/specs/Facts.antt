@@ -1,0 +1,50 @@
+-- What the functions of this crate ask and tell, by name.
+use Prim.Native.Nat.{ℕ, suc, _+_, _-_, _≤_, _<_}
+use mathlib.Core.Path.{_≡_}
+use mathlib.Core.List.{List}
+use mathlib.Core.Bool.{Bool, true, false, _&&_}
+use lib.Dec.{eqb, leb}
+use lib.ListN.{length}
+use lib.Seq.{slice}
+use Rattle.iff.specs.Lists.{all}
+use Rattle.iff.specs.Columns.{Field, picture, recordFields, fits}
+use Rattle.iff.specs.Values.{wordsOf, wordCount, readable}
+use Rattle.iff.specs.declared.Record.{Record}
+use Rattle.records.specs.declared.Entry.{Entry}
+use Rattle.records.specs.declared.Spans.{Spans}
+use Rattle.records.specs.Layouts.{fields, fieldAt, byteOf}
+
+-- a line whose words can be read, and room for them and the tag
+pub record Legible (days : ℕ) (r : Record) (body : List ℕ) (room : ℕ) : Type 0 where
+  pub fitting : fits body (picture (recordFields days r)) ≡ true
+  pub reading : readable body (recordFields days r) ≡ true
+  pub roomy : suc (wordCount (recordFields days r)) ≤ room
+
+-- entry j of the table of fields
+pub record EntryOf (j : ℕ) (e : Entry) : Type 0 where
+  pub begins : e .0 ≡ fieldAt j .from
+  pub low : 1 ≤ e .0
+  pub wide : e .1 ≡ fieldAt j .width
+  pub classed : e .2 ≡ byteOf (fieldAt j .class)
+
+-- a field lies in a line of so many bytes, and leaves one word
+pub record Sound (room : ℕ) (f : Field) : Type 0 where
+  pub within : f .from - 1 + f .width ≤ room
+  pub small : f .width ≤ 8
+  pub one : wordsOf (f .class) ≡ 1
+
+-- the same as a test, which computes
+abbrev pub sound : ℕ → Field → Bool
+sound room f = leb (f .from - 1 + f .width) room && (leb (f .width) 8 && eqb (wordsOf (f .class)) 1)
+
+-- some entries of the table, all of them sound in a line
+pub record Entries (first end : ℕ) (line : List ℕ) : Type 0 where
+  pub inTurn : first ≤ end
+  pub inTable : end ≤ 51
+  pub allSound : all (sound (length line)) (slice first end fields) ≡ true
+
+-- a part of the two tables, for a line of its width
+pub record SpansIn (s : Spans) (line : List ℕ) : Type 0 where
+  pub low : s .0 ≤ s .1
+  pub top : s .1 ≤ 511
+  pub entries : Entries (s .2) (s .3) line
