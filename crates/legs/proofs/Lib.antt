@@ -1,0 +1,7 @@
+pub mod MarkLaws
+pub mod RowLaws
+pub mod LineLaws
+pub mod SpanLaws
+pub mod BlockLaws
+pub mod WordLaws
+pub mod Cases
