@@ -4,14 +4,15 @@ use mathlib.Core.Path.{_≡_}
 use mathlib.Core.List.{List, [], _∷_}
 use mathlib.Core.Bool.{Bool, true, false}
 use lib.Dec.{eqb}
-use lib.ListN.{length, drop, replicate}
+use lib.ListN.{length, getD, drop, replicate}
 use Rattle.iff.specs.Lists.{same}
 use Rattle.iff.specs.Refusals.{orElse, fine}
-use Rattle.iff.specs.Lines.{Line, lines}
+use Rattle.iff.specs.Lines.{Line, lines, noLine}
 use Rattle.iff.specs.Columns.{firstFields, picture, fits}
 use Rattle.iff.specs.Values.{readable}
 use Rattle.iff.specs.Tables.{Row, tag, rowWidth, room, fill, keyTag, keysOf, rising}
 use Rattle.iff.specs.declared.File.{File}
+use Rattle.iff.specs.declared.File.the-variants.{Delivery, Company, Country, Trnsmode, Timezone, Stations, Footnote, Timetbls, Changes, Xfootnote, Xchanges}
 use Rattle.iff.specs.declared.Test.{Test}
 use Rattle.iff.specs.declared.Test.the-variants.{Passes, Fails}
 use Rattle.iff.specs.declared.Verdict.{Verdict}
@@ -32,6 +33,29 @@ pub record Ready (f : File) (text t : List ℕ) : Type 0 where
 pub record FirstLegible (body : List ℕ) : Type 0 where
   pub fitting : fits body (picture firstFields) ≡ true
   pub reading : readable body firstFields ≡ true
+
+-- room for a first line's row
+pub record FirstRow (f : File) (body row : List ℕ) : Type 0 where
+  pub legible : FirstLegible body
+  pub width : length row ≡ rowWidth f
+
+-- rows of TIMETBLS have their line's number
+abbrev pub isNumbered : File → Bool
+isNumbered Delivery = false
+isNumbered Company = false
+isNumbered Country = false
+isNumbered Trnsmode = false
+isNumbered Timezone = false
+isNumbered Stations = false
+isNumbered Footnote = false
+isNumbered Timetbls = true
+isNumbered Changes = false
+isNumbered Xfootnote = false
+isNumbered Xchanges = false
+
+-- a text's first line
+abbrev pub headLine : List ℕ → Line
+headLine text = getD (lines text) 0 noLine
 
 -- A FIRST LINE: its tests, and its row with the lines after it
 abbrev pub beginTest : Begin → Test

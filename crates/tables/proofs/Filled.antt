@@ -20,7 +20,7 @@ unfolding joined
 joined-append [] qs = refl
 joined-append (r ∷ rs) qs = rw (joined-append rs qs, append-assoc)
 
-drop-replicate : (a n x : ℕ) → drop a (replicate n x) ≡ replicate (n - a) x
+pub drop-replicate : (a n x : ℕ) → drop a (replicate n x) ≡ replicate (n - a) x
 drop-replicate zero n x = rw sub-zero
 drop-replicate (suc a) zero x =
     let e : 0 - suc a ≡ 0 = omega arith in

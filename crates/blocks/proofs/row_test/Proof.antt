@@ -1,0 +1,26 @@
+-- `blocks::row_test` meets its contract: each way out is one of the laws of a row. Assumes nothing.
+use mathlib.Core.Path.{sym, _∙_}
+use borrow.Author.Needs.{needs}
+use borrow.Author.Tests.{not-true, not-false}
+use Rattle.blocks.proofs.StepLaws.{keys-agree, bad-value, not-new, not-met, row-passes}
+use Rattle.blocks.proofs.row_test.Statement.{statement}
+use Rattle.blocks.proofs.row_test.Tie as tie
+
+pub row-test-spec : {M : Type 1} → statement M
+row-test-spec =
+    tie.close
+    (tie.spec
+    (λ c κs. search needs)
+    (λ c. bad-value _ _ _ _ (sym (c .before .row-means .ensures) ∙ not-true _ (c .if1 .taken)))
+    (λ c. search needs)
+    (λ c κs. search needs)
+    (λ c. not-new _ _ _ _ (sym (c .before .before .before .before .row-means .ensures) ∙ not-false _ (c .before .before .before .if1 .left)) (sym (c .before .is-new .ensures) ∙ not-true _ (c .if2 .taken)))
+    (λ c κs. search needs)
+    (λ c. not-met _ _ _ _
+    (sym (c .before .before .before .before .before .before .row-means .ensures) ∙ not-false _ (c .before .before .before .before .before .if1 .left))
+    (sym (c .before .before .before .is-new .ensures) ∙ not-false _ (c .before .before .if2 .left))
+    (sym (c .before .met-in-block .ensures _ (keys-agree _ _ _ _)) ∙ not-true _ (c .if3 .taken)))
+    (λ c. row-passes _ _ _ _
+    (sym (c .before .before .before .before .before .before .row-means .ensures) ∙ not-false _ (c .before .before .before .before .before .if1 .left))
+    (sym (c .before .before .before .is-new .ensures) ∙ not-false _ (c .before .before .if2 .left))
+    (sym (c .before .met-in-block .ensures _ (keys-agree _ _ _ _)) ∙ not-false _ (c .if3 .left))))

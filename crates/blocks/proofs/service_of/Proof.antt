@@ -1,0 +1,22 @@
+-- `blocks::service_of` meets its contract: the first line is the one that ends first, or the whole text. Assumes nothing.
+use mathlib.Core.Path.{sym, _∙_}
+use native.Mathlib.Omega.{arith}
+use borrow.Author.Needs.{needs}
+use Rattle.blocks.proofs.ServiceLaws.{first-ends, service-ended, service-unended}
+use Rattle.blocks.proofs.service_of.Statement.{statement}
+use Rattle.blocks.proofs.service_of.Tie as tie
+
+pub service-of-spec : {M : Type 1} → statement M
+service-of-spec =
+    tie.close
+    (tie.spec
+    (λ c κs. search needs)
+    (λ c. search needs)
+    (λ c. search needs)
+    (λ c. search needs)
+    (λ c. omega (arith, first-ends _ _ (sym (c .before .before .before .line-end .ensures) ∙ c .before .e .given .1)))
+    (λ c κs. search needs)
+    (λ c. search needs)
+    (λ c κs. search needs)
+    (λ c. service-ended _ _ (sym (c .before .before .before .before .before .line-end .ensures) ∙ c .before .before .before .e .given .1) _ (c .head-word .ensures))
+    (λ c. service-unended _ (sym (c .before .before .before .line-end .ensures) ∙ c .before .enum-told .given .1) _ (c .head-word2 .ensures)))
