@@ -1,0 +1,5 @@
+pub mod TestLaws
+pub mod TextLaws
+pub mod PlainLaws
+pub mod ReadLaws
+pub mod WholeLaws

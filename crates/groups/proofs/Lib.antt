@@ -1,0 +1,7 @@
+pub mod TestLaws
+pub mod FlatLaws
+pub mod LineLaws
+pub mod StepLaws
+pub mod WalkLaws
+-- laws for callers
+pub mod Begins

@@ -1,0 +1,3 @@
+pub mod Tests
+pub mod Flat
+pub mod Facts

@@ -1,0 +1,462 @@
+// The lines of a file of groups after its first line: TIMEZONE, FOOTNOTE, CHANGES, XFOOTNOTE, XCHANGES. Every line's tests in their order, its row
+// into the table, and the first fault with its place.
+use iff::File;
+use iff::Place;
+use iff::Reason;
+use iff::Record;
+use iff::Test;
+use keys::KeyRun;
+use reading::RowsRead;
+ghost use mathlib.Core.Path.{_≡_};
+ghost use mathlib.Core.Bool.{true, _&&_, cond};
+ghost use mathlib.Core.List.{map};
+ghost use Prim.Native.Nat.{suc, _+_, _-_, _<_, _≤_};
+ghost use lib.ListN.{length, take, drop};
+ghost use Rattle.iff.specs.Lines.{lines, isHash};
+ghost use Rattle.iff.specs.Columns.{recordFields};
+ghost use Rattle.iff.specs.Values.{wordCount};
+ghost use Rattle.iff.specs.Tables.{rowWidth};
+ghost use Rattle.iff_rules.specs.Order.{mayFollow, inGroup, oneVector, isPeriod, least};
+ghost use Rattle.iff_rules.specs.Rows.{Context, rowOf};
+ghost use Rattle.iff_rules.specs.Unique.{freshKey, freshInGroup};
+ghost use Rattle.iff_rules.specs.Load.{groupsVerdict};
+ghost use Rattle.records.specs.Layouts.{lineOf};
+ghost use Rattle.keys.specs.Lookup.{keysIn};
+ghost use Rattle.keys.specs.Agree.{GroupKeys, isGroupFile};
+ghost use Rattle.reading.specs.Reading.{RowsDone};
+ghost use Rattle.groups.specs.Tests.{placeTest, groupRowTest, whole};
+ghost use Rattle.groups.specs.Facts.{LineRead, RowMade, Beside, openRows, runAfter, RowTested, addDue, lineDue, Stepped, Groups};
+
+// The letter `#` as a row's tag.
+const HASH: u64 = 35;
+
+// The group that lines are put to: how many it has so far, and what is remembered of the file's keys.
+pub struct Open {
+    pub size: usize,
+    pub run: KeyRun,
+}
+
+// A line was put to its group; or it opens a group before the last one is whole, which is the fault of the line before it; or it is refused.
+pub enum Step {
+    Goes(Open),
+    Early,
+    No(Reason),
+}
+
+// How many lines a group has at the least. Only files of groups have any.
+fn least_lines(file: File) -> usize
+    ensures { λ r. ⌜ r ≡ least file ⌝ }
+{
+    match file {
+        File::Delivery => 0,
+        File::Company => 0,
+        File::Country => 0,
+        File::Trnsmode => 0,
+        File::Timezone => 2,
+        File::Stations => 0,
+        File::Footnote => 2,
+        File::Timetbls => 0,
+        File::Changes => 1,
+        File::Xfootnote => 2,
+        File::Xchanges => 1,
+    }
+}
+
+// A group of `size` lines may end; where none was opened, nothing is missing.
+fn is_whole(file: File, size: usize) -> bool
+    ensures { λ r. ⌜ r ≡ whole file size ⌝ }
+{
+    if size == 0 {
+        return true;
+    }
+    least_lines(file) <= size
+}
+
+// A zone's period is `+` or `-`.
+fn is_sign(tag: u64) -> bool
+    ensures { λ r. ⌜ r ≡ isPeriod tag ⌝ }
+{
+    if tag == 43 {
+        return true;
+    }
+    tag == 45
+}
+
+// A footnote has one vector, right after its `#`.
+fn is_only_vector(after: usize, tag: u64) -> bool
+    ensures { λ r. ⌜ r ≡ oneVector after tag ⌝ }
+{
+    if after == 0 {
+        return tag == 1;
+    }
+    false
+}
+
+// A row with this tag may stand in a group, `after` lines behind its `#`.
+fn may_stand(file: File, after: usize, tag: u64) -> bool
+    ensures { λ r. ⌜ r ≡ inGroup file after tag ⌝ }
+{
+    match file {
+        File::Delivery => false,
+        File::Company => false,
+        File::Country => false,
+        File::Trnsmode => false,
+        File::Timezone => is_sign(tag),
+        File::Stations => false,
+        File::Footnote => is_only_vector(after, tag),
+        File::Timetbls => false,
+        File::Changes => tag == 45,
+        File::Xfootnote => is_only_vector(after, tag),
+        File::Xchanges => tag == 45,
+    }
+}
+
+// A row with this tag may follow `size` lines of a group.
+fn may_follow(file: File, size: usize, tag: u64) -> bool
+    ensures { λ r. ⌜ r ≡ mayFollow file size tag ⌝ }
+{
+    if size == 0 {
+        return tag == HASH;
+    }
+    may_stand(file, size - 1, tag)
+}
+
+// A line's first byte: known, and where it may stand.
+fn place_test(file: File, size: usize, letter: u8) -> Test
+    ensures { λ r. ⌜ r ≡ placeTest file size letter ⌝ }
+{
+    if !records::is_known(file, letter) {
+        return Test::Fails(Reason::Layout);
+    }
+    let tag = records::tag_of(file, letter);
+    if !may_follow(file, size, tag) {
+        return Test::Fails(Reason::Order);
+    }
+    Test::Passes
+}
+
+// A line's layout and values, and its words where both are right.
+fn read_line(kind: Record, tag: u64, days: usize, line: &[u8], ended: bool, row: &mut [u64]) -> Test
+    requires { ⌜ suc (wordCount (recordFields days kind)) ≤ length (now row) ⌝ }
+    ensures { λ r. ⌜ LineRead days kind tag (lineOf (now (line .entry)) ended) (now (row .entry)) (now (row .exit)) r ⌝ }
+{
+    match records::line_layout(kind, days, line, ended) {
+        Test::Fails(r) => Test::Fails(r),
+        Test::Passes => {
+            records::put_words(kind, tag, days, 0, line, row);
+            Test::Passes
+        }
+    }
+}
+
+// The tests of a line alone, and its row where they pass.
+fn make_row(file: File, days: usize, size: usize, line: &[u8], ended: bool, row: &mut [u64]) -> Test
+    requires { ⌜ (isGroupFile file ≡ true) × (length (now row) ≡ rowWidth file) ⌝ }
+    ensures { λ r. ⌜ RowMade file days size (lineOf (now (line .entry)) ended) (now (row .entry)) (now (row .exit)) r ⌝ }
+{
+    let letter = text::first_byte(line);
+    match place_test(file, size, letter) {
+        Test::Fails(r) => Test::Fails(r),
+        Test::Passes => {
+            let kind = records::record_of(file, letter);
+            let tag = records::tag_of(file, letter);
+            read_line(kind, tag, days, line, ended, row)
+        }
+    }
+}
+
+// A `#` names a key that no group before it has; another row shares with none of its group what no two may.
+fn is_unique(file: File, rows: usize, size: usize, run: KeyRun, row: &[u64], t: &[u64]) -> bool
+    requires { ⌜ Beside file rows size run (now t) × (length (now row) ≡ rowWidth file) ⌝ }
+    ensures { λ r. ⌜ r ≡ (freshKey file (keysIn file (now (t .entry))) (now (row .entry)) && freshInGroup file (drop 1 (openRows file (now (t .entry)) rows size)) (now (row .entry))) ⌝ }
+{
+    if row[0] == HASH {
+        return keys::is_fresh(file, run, t, row[1]);
+    }
+    let from = rows - size + 1;
+    keys::fresh_in_group(file, t, from, rows, row)
+}
+
+// The tests of a row, in their order: values, duplicates, references.
+fn row_test(
+    file: File,
+    rows: usize,
+    size: usize,
+    run: KeyRun,
+    row: &[u64],
+    t: &[u64],
+    companies: &[u64],
+    modes: &[u64],
+    stations: &[u64],
+    services: &[u64],
+    xfootnotes: &[u64],
+) -> Test
+    requires { ⌜ Beside file rows size run (now t) × (length (now row) ≡ rowWidth file) ⌝ }
+    ensures { λ r. ⌜ ((c : Context) → GroupKeys c (now (companies .entry)) (now (modes .entry)) (now (stations .entry)) (now (services .entry)) (now (xfootnotes .entry)) → r ≡ groupRowTest c file (keysIn file (now (t .entry))) (openRows file (now (t .entry)) rows size) (now (row .entry))) ⌝ }
+{
+    if !records::row_means(file, size, row) {
+        return Test::Fails(Reason::Value);
+    }
+    if !is_unique(file, rows, size, run, row, t) {
+        return Test::Fails(Reason::Duplicate);
+    }
+    if !keys::met_group(file, row, companies, modes, stations, services, xfootnotes) {
+        return Test::Fails(Reason::Reference);
+    }
+    Test::Passes
+}
+
+// All tests of a line that is put to a group of `size` lines, and its row where they pass.
+fn test_row(
+    file: File,
+    days: usize,
+    line: &[u8],
+    ended: bool,
+    rows: usize,
+    size: usize,
+    run: KeyRun,
+    t: &[u64],
+    companies: &[u64],
+    modes: &[u64],
+    stations: &[u64],
+    services: &[u64],
+    xfootnotes: &[u64],
+    row: &mut [u64],
+) -> Test
+    requires { ⌜ Beside file rows size run (now t) × (length (now row) ≡ rowWidth file) ⌝ }
+    ensures { λ r. ⌜ RowTested file days rows size (λ c. GroupKeys c (now (companies .entry)) (now (modes .entry)) (now (stations .entry)) (now (services .entry)) (now (xfootnotes .entry))) (lineOf (now (line .entry)) ended) (now (t .entry)) (now (row .entry)) (now (row .exit)) r ⌝ }
+{
+    match make_row(file, days, size, line, ended, row) {
+        Test::Fails(r) => Test::Fails(r),
+        Test::Passes => row_test(
+            file,
+            rows,
+            size,
+            run,
+            row,
+            t,
+            companies,
+            modes,
+            stations,
+            services,
+            xfootnotes,
+        ),
+    }
+}
+
+// A group's `#` names a key.
+fn run_after(run: KeyRun, tag: u64, key: u64) -> KeyRun
+    ensures { λ r. ⌜ r ≡ runAfter run tag key ⌝ }
+{
+    if tag == HASH {
+        return keys::next_run(run, key);
+    }
+    run
+}
+
+// Puts a line to a group of `size` lines, where its tests pass: its row goes behind the `rows` rows of the table.
+fn add_row(
+    file: File,
+    days: usize,
+    line: &[u8],
+    ended: bool,
+    rows: usize,
+    size: usize,
+    run: KeyRun,
+    t: &mut [u64],
+    companies: &[u64],
+    modes: &[u64],
+    stations: &[u64],
+    services: &[u64],
+    xfootnotes: &[u64],
+    row: &mut [u64],
+) -> Step
+    requires { ⌜ Beside file rows size run (now t) × (length (now row) ≡ rowWidth file) ⌝ }
+    ensures { λ r. ⌜ Stepped file days rows size run (λ c. GroupKeys c (now (companies .entry)) (now (modes .entry)) (now (stations .entry)) (now (services .entry)) (now (xfootnotes .entry))) (addDue file rows size (lineOf (now (line .entry)) ended) (now (t .entry))) (lineOf (now (line .entry)) ended) (now (t .entry)) (now (t .exit)) r ⌝ }
+{
+    match test_row(
+        file,
+        days,
+        line,
+        ended,
+        rows,
+        size,
+        run,
+        t,
+        companies,
+        modes,
+        stations,
+        services,
+        xfootnotes,
+        row,
+    ) {
+        Test::Fails(r) => Step::No(r),
+        Test::Passes => {
+            tables::put_row(t, row.len(), rows, row);
+            let after = run_after(run, row[0], row[1]);
+            Step::Goes(Open {
+                size: size + 1,
+                run: after,
+            })
+        }
+    }
+}
+
+// The same, with a row of its own to work in.
+fn add_line(
+    file: File,
+    days: usize,
+    line: &[u8],
+    ended: bool,
+    rows: usize,
+    size: usize,
+    run: KeyRun,
+    t: &mut [u64],
+    companies: &[u64],
+    modes: &[u64],
+    stations: &[u64],
+    services: &[u64],
+    xfootnotes: &[u64],
+) -> Step
+    requires { ⌜ Beside file rows size run (now t) ⌝ }
+    ensures { λ r. ⌜ Stepped file days rows size run (λ c. GroupKeys c (now (companies .entry)) (now (modes .entry)) (now (stations .entry)) (now (services .entry)) (now (xfootnotes .entry))) (addDue file rows size (lineOf (now (line .entry)) ended) (now (t .entry))) (lineOf (now (line .entry)) ended) (now (t .entry)) (now (t .exit)) r ⌝ }
+{
+    let mut row: [u64; 14] = [0; 14];
+    let w = tables::row_width(file);
+    add_row(
+        file,
+        days,
+        line,
+        ended,
+        rows,
+        size,
+        run,
+        t,
+        companies,
+        modes,
+        stations,
+        services,
+        xfootnotes,
+        &mut row[..w],
+    )
+}
+
+// One line after a group of some lines: a `#` opens the next group, where that one is whole.
+fn group_line(
+    file: File,
+    days: usize,
+    line: &[u8],
+    ended: bool,
+    rows: usize,
+    group: Open,
+    t: &mut [u64],
+    companies: &[u64],
+    modes: &[u64],
+    stations: &[u64],
+    services: &[u64],
+    xfootnotes: &[u64],
+) -> Step
+    requires { ⌜ Beside file rows (group .size) (group .run) (now t) ⌝ }
+    ensures { λ r. ⌜ Stepped file days rows (cond (isHash (lineOf (now (line .entry)) ended)) 0 (group .size)) (group .run) (λ c. GroupKeys c (now (companies .entry)) (now (modes .entry)) (now (stations .entry)) (now (services .entry)) (now (xfootnotes .entry))) (lineDue file rows (group .size) (lineOf (now (line .entry)) ended) (now (t .entry))) (lineOf (now (line .entry)) ended) (now (t .entry)) (now (t .exit)) r ⌝ }
+{
+    let size = group.size;
+    let run = group.run;
+    if text::first_byte(line) == b'#' {
+        if !is_whole(file, size) {
+            return Step::Early;
+        }
+        return add_line(
+            file,
+            days,
+            line,
+            ended,
+            rows,
+            0,
+            run,
+            t,
+            companies,
+            modes,
+            stations,
+            services,
+            xfootnotes,
+        );
+    }
+    add_line(
+        file,
+        days,
+        line,
+        ended,
+        rows,
+        size,
+        run,
+        t,
+        companies,
+        modes,
+        stations,
+        services,
+        xfootnotes,
+    )
+}
+
+// The lines from `from` on, the first of which is line 2 of the file. The table holds the first line's row, and theirs come behind it.
+pub fn read_groups(
+    file: File,
+    days: usize,
+    text: &[u8],
+    from: usize,
+    t: &mut [u64],
+    companies: &[u64],
+    modes: &[u64],
+    stations: &[u64],
+    services: &[u64],
+    xfootnotes: &[u64],
+) -> RowsRead
+    requires { ⌜ Groups file from (now text) (now t) ⌝ }
+    ensures { λ r. ⌜ RowsDone file days (λ c. GroupKeys c (now (companies .entry)) (now (modes .entry)) (now (stations .entry)) (now (services .entry)) (now (xfootnotes .entry))) (λ c. groupsVerdict c file (lines (drop from (now (text .entry))))) (take (rowWidth file) (now (t .entry))) (map (rowOf days file) (lines (drop from (now (text .entry))))) (now (t .entry)) (now (t .exit)) r ⌝ }
+{
+    let mut at = from;
+    let mut read: usize = 0;
+    let mut group = Open {
+        size: 0,
+        run: keys::no_keys(),
+    };
+    while at < text.len() {
+        let s = text::line_at(text, at);
+        let end = s.end;
+        let next = s.next;
+        let ended = s.ended;
+        let rows = read + 1;
+        match group_line(
+            file,
+            days,
+            &text[at..end],
+            ended,
+            rows,
+            group,
+            t,
+            companies,
+            modes,
+            stations,
+            services,
+            xfootnotes,
+        ) {
+            Step::Early => {
+                return RowsRead::Stopped(Reason::Order, Place::At(file, 0, rows as u64));
+            }
+            Step::No(r) => {
+                return RowsRead::Stopped(r, Place::At(file, 0, rows as u64 + 1));
+            }
+            Step::Goes(g) => {
+                group = g;
+                read = rows;
+                at = next;
+            }
+        }
+    }
+    let size = group.size;
+    if !is_whole(file, size) {
+        return RowsRead::Stopped(Reason::Order, Place::At(file, 0, read as u64 + 1));
+    }
+    let run = group.run;
+    RowsRead::AllRead(run.rises)
+}

@@ -1,0 +1,166 @@
+-- Laws of one block: its test after those before it, and its rows behind theirs. Assumes nothing.
+use Prim.Native.Nat.{ℕ, zero, suc, _+_, _-_, _*_, _≤_}
+use mathlib.Core.Path.{_≡_, ap, sym, _∙_}
+use mathlib.Core.List.{List, [], _∷_, _++_, append-assoc}
+use mathlib.Core.Bool.{Bool, true, false, not}
+use native.Mathlib.Nat.{sub-zero}
+use native.Mathlib.Omega.{arith}
+use lib.ListN.{length, getD, take, drop, replicate, length-append}
+use lib.Seq.{drop-drop}
+use borrow.Author.Tests.{eq-eqb, ne-eqb}
+use Rattle.iff.specs.Bytes.{hash}
+use Rattle.iff.specs.Lists.{front, has, members}
+use Rattle.iff.specs.Refusals.{firstTest}
+use Rattle.iff.specs.Lines.{lines, isHash}
+use Rattle.iff.specs.Tables.{Row, joined, fill, rowsIn, keysOf}
+use Rattle.iff.specs.declared.File.the-variants.{Timetbls}
+use Rattle.iff.specs.declared.Reason.{Reason}
+use Rattle.iff.specs.declared.Reason.the-variants.{Layout, Order}
+use Rattle.iff.specs.declared.Test.the-variants.{Passes, Fails}
+use Rattle.iff_rules.specs.Order.{lineTest, known}
+use Rattle.iff_rules.specs.Rows.{blockRows, linesIn, stopsIn, asBlock}
+use Rattle.iff_rules.specs.Load.{serviceOf}
+use Rattle.text.specs.declared.LineSpan.{LineSpan}
+use Rattle.text.specs.Spans.{spanLine, LineAt}
+use Rattle.text.proofs.LineLaws.{lines-end}
+use Rattle.tables.proofs.Each.{Each, each-append}
+use Rattle.tables.proofs.Rows.{Used, table-rows-used}
+use Rattle.tables.proofs.Filled.{joined-append, rows-in-fill, fill-front, fill-behind}
+use Rattle.keys.specs.declared.KeyRun.{KeyRun}
+use Rattle.keys.specs.Lookup.{keysIn}
+use Rattle.keys.specs.Runs.{stepRun}
+use Rattle.keys.proofs.Runs.{run-next}
+use Rattle.keys.proofs.Fills.{keys-append}
+use Rattle.legs.proofs.RowLaws.{block-lines}
+use Rattle.blocks.specs.declared.Checked.{Checked}
+use Rattle.blocks.specs.declared.Checked.the-variants.{Whole, Broken}
+use Rattle.blocks.specs.Whole.{WholeBlock, BlockChecked}
+use Rattle.blocks.proofs.WholeLaws.{fresh-service}
+use Rattle.timetbls.specs.declared.Added.the-variants.{Kept, Faulty}
+use Rattle.timetbls.specs.Blocks.{StrayTold, BlockTested, Placeable, Addable, BlockAdded}
+use Rattle.timetbls.proofs.GroupLaws.{front-open, front-closed, front-nil}
+use Rattle.timetbls.proofs.RowLaws.{rows-used, rows-count, block-keys}
+
+-- A LINE BEFORE THE FIRST BLOCK
+module _ (t : List ℕ) (from : ℕ) where
+  pub stray-none : length t ≤ from → StrayTold (lines (drop from t)) Passes
+  stray-none h =
+      let e : front isHash (lines (drop from t)) ≡ [] = ap (front isHash) (lines-end t from h) ∙ front-nil isHash in
+      record { says = rw e; clean = λ _. e }
+
+  -- the line that stands there, whose letter is x
+  module _ (s : LineSpan) (l : LineAt t from s) (x : ℕ) (p : x ≡ getD (take (s .end - from) (drop from t)) 0 0) where
+    pub stray-open : x ≡ hash → StrayTold (lines (drop from t)) Passes
+    stray-open h =
+        let e : front isHash (lines (drop from t)) ≡ [] = ap (front isHash) (l .head) ∙ front-open isHash (spanLine t from s) (lines (drop (s .next) t)) (eq-eqb _ _ (sym p ∙ h)) in
+        record { says = rw e; clean = λ _. e }
+
+    module _ (h : x ≡ hash → ⊥) (b : Bool) (k : b ≡ known Timetbls x) where
+      strays : front isHash (lines (drop from t)) ≡ spanLine t from s ∷ front isHash (lines (drop (s .next) t))
+      strays = ap (front isHash) (l .head) ∙ front-closed isHash (spanLine t from s) (lines (drop (s .next) t)) (ne-eqb _ _ (λ z. h (p ∙ z)))
+
+      pub stray-known : b ≡ true → StrayTold (lines (drop from t)) (Fails Order)
+      unfolding lineTest firstTest
+      stray-known e =
+          let q : known Timetbls (getD (take (s .end - from) (drop from t)) 0 0) ≡ true = sym (ap (known Timetbls) p) ∙ sym k ∙ e in
+          record { says = rw (strays, q); clean = λ z. absurd (let y : _≡_ {A = ℕ} 0 1 = cc in omega arith) }
+
+      pub stray-unknown : b ≡ false → StrayTold (lines (drop from t)) (Fails Layout)
+      unfolding lineTest firstTest
+      stray-unknown e =
+          let q : known Timetbls (getD (take (s .end - from) (drop from t)) 0 0) ≡ false = sym (ap (known Timetbls) p) ∙ sym k ∙ e in
+          record { says = rw (strays, q); clean = λ z. absurd (let y : _≡_ {A = ℕ} 0 1 = cc in omega arith) }
+
+-- ONE BLOCK, tested against the services of the table
+pub tested : (b t co mo st fo : List ℕ) (service : ℕ) (fresh : Bool) (r : Checked) → isHash (asBlock b .top) ≡ true → service ≡ serviceOf (asBlock b)
+    → fresh ≡ not (has service (keysIn Timetbls t)) → BlockChecked b fresh co mo st fo r → BlockTested b t co mo st fo r
+tested b t co mo st fo service fresh r h s f k =
+    record {
+      says =
+          λ c a o. k .says c a (keysIn Timetbls t)
+          (f ∙ ap (λ (x : ℕ). not (has x (keysIn Timetbls t))) s ∙ sym (fresh-service (c .days) (keysIn Timetbls t) (asBlock b) h)) o;
+      whole = k .whole;
+    }
+
+-- ROWS BEHIND ROWS
+drop-zeros : (a n : ℕ) → drop {A = ℕ} a (replicate n 0) ≡ replicate (n - a) 0
+drop-zeros zero n = rw sub-zero
+drop-zeros (suc a) zero =
+    let e : 0 - suc a ≡ 0 = omega arith in
+    rw e
+drop-zeros (suc a) (suc n) =
+    let e : suc n - suc a ≡ n - a = omega arith in
+    rw e (drop-zeros a n)
+
+-- what `write_block` leaves in a table of some rows
+pub fill-more : (n : ℕ) (rs qs : List Row) → Each (Used 7) rs
+    → take (length rs * 7) (fill 7 n rs) ++ (joined qs ++ drop ((length rs + length qs) * 7) (fill 7 n rs)) ≡ fill 7 n (rs ++ qs)
+unfolding fill
+fill-more n rs qs u =
+    let d : (length rs + length qs) * 7 ≡ length rs * 7 + length qs * 7 = omega arith in
+    let e : n - length rs * 7 - length qs * 7 ≡ n - (length rs + length qs) * 7 = omega arith in
+    rw (fill-front 7 n rs u, d, ← (drop-drop (length qs * 7) (length rs * 7) (fill 7 n rs)), fill-behind 7 n rs u, drop-zeros, e)
+    (rw (joined-append, length-append, append-assoc))
+
+-- THE BLOCK IS REFUSED, or kept
+module _ (b was co mo st fo : List ℕ) (x : Checked) (y : BlockTested b was co mo st fo x) where
+  pub added-faulty : (w : Reason) (j : ℕ) → x ≡ Broken w j → (is : List ℕ) → BlockAdded b was is co mo st fo (Faulty w j)
+  added-faulty w j e is =
+      record {
+        says = λ c a o. rw e at (y .says c a o);
+        grown = λ run row q. absurd (let z : _≡_ {A = ℕ} 0 1 = cc in omega arith);
+      }
+
+  module _ (run : KeyRun) (row : ℕ) (a : Addable b was run row) (k n : ℕ) (e : x ≡ Whole k n) where
+    whole : WholeBlock b k n
+    whole = y .whole k n e
+
+    pub placeable : Placeable b was k n row
+    placeable = record { whole = whole; room = rw (whole .counted) (a .room) }
+
+    abbrev rows : List Row
+    rows = blockRows (asBlock b)
+
+    used : Each (Used 7) rows
+    used = rows-used (stopsIn (asBlock b)) (linesIn (asBlock b)) 1 (members (asBlock b)) (rw (block-lines b (whole .some)) (whole .each))
+
+    count : length rows ≡ k
+    count = rows-count (stopsIn (asBlock b)) (linesIn (asBlock b)) 1 (members (asBlock b)) ∙ sym (whole .counted)
+
+    both-used : Each (Used 7) (rowsIn Timetbls was ++ rows)
+    both-used = each-append (Used 7) (rowsIn Timetbls was) rows (table-rows-used 7 (omega arith) was) used
+
+    fits-both : length (rowsIn Timetbls was ++ rows) * 7 ≤ length was
+    fits-both = omega (arith, length-append (rowsIn Timetbls was) rows, count, a .holding .rows, placeable .room)
+
+    module _ (is : List ℕ) (m : length is ≡ length was) (w : is ≡ take (row * 7) was ++ (joined rows ++ drop ((row + k) * 7) was)) where
+      filled : is ≡ fill 7 (length was) (rowsIn Timetbls was ++ rows)
+      filled =
+          w
+          ∙ ap (λ (t : List ℕ). take (row * 7) t ++ (joined rows ++ drop ((row + k) * 7) t)) (a .holding .filled)
+          ∙ rw (a .holding .rows, ← count) (fill-more (length was) (rowsIn Timetbls was) rows (table-rows-used 7 (omega arith) was))
+
+      now-rows : rowsIn Timetbls is ≡ rowsIn Timetbls was ++ rows
+      now-rows = ap (rowsIn Timetbls) filled ∙ rows-in-fill 7 (omega arith) (length was) (rowsIn Timetbls was ++ rows) both-used fits-both
+
+      now-keys : keysIn Timetbls is ≡ keysIn Timetbls was ++ (serviceOf (asBlock b) ∷ [])
+      now-keys = ap (keysOf Timetbls) now-rows ∙ keys-append Timetbls (rowsIn Timetbls was) rows ∙ rw (block-keys (asBlock b) (a .one .opens) (a .one .single))
+
+      pub added-kept : (next : KeyRun) (to : ℕ) → next ≡ stepRun run (serviceOf (asBlock b)) → to ≡ row + k → BlockAdded b was is co mo st fo (Kept next to)
+      added-kept next to p q =
+          record {
+            says = λ c g o. rw e at (y .says c g o);
+            grown =
+                λ run′ row′ z. let f : next ≡ run′ = cc in
+                let h : to ≡ row′ = cc in
+                record {
+                  holding =
+                      record {
+                        filled = filled ∙ ap (λ (i : ℕ). fill 7 i (rowsIn Timetbls was ++ rows)) (sym m) ∙ ap (fill 7 (length is)) (sym now-rows);
+                        services = sym f ∙ p ∙ rw (now-keys, a .holding .services) (sym (run-next (keysIn Timetbls was) (serviceOf (asBlock b))));
+                        rows = omega (arith, ap length now-rows, length-append (rowsIn Timetbls was) rows, count, a .holding .rows);
+                      };
+                  rows = now-rows;
+                  seen = now-keys;
+                };
+          }

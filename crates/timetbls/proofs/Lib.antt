@@ -1,0 +1,6 @@
+pub mod RowLaws
+pub mod WriteLaws
+pub mod GroupLaws
+pub mod PartLaws
+pub mod AddLaws
+pub mod ReadLaws

@@ -1,0 +1,192 @@
+-- Laws of blocks one after the other, and of the whole file behind its first line. Assumes nothing.
+use Prim.Native.Nat.{ℕ, suc, _+_, _-_, _*_, _≤_}
+use mathlib.Core.Path.{_≡_, refl, ap, sym, _∙_}
+use mathlib.Core.List.{List, [], _∷_, _++_, append-assoc, append-nil}
+use mathlib.Core.Bool.{true, false}
+use native.Mathlib.Numerals.{add-one}
+use native.Mathlib.Omega.{arith}
+use lib.ListN.{length, drop, length-append}
+use Rattle.iff.specs.Lists.{groups, members}
+use Rattle.iff.specs.Refusals.{orElse, firstFault, scan, after}
+use Rattle.iff.specs.Lines.{Line, lines}
+use Rattle.iff.specs.Tables.{Row, fill, rowsIn, keysOf, rising}
+use Rattle.iff.specs.declared.File.the-variants.{Timetbls}
+use Rattle.iff.specs.declared.Reason.{Reason}
+use Rattle.iff.specs.declared.Place.the-variants.{At}
+use Rattle.iff.specs.declared.Test.{Test}
+use Rattle.iff.specs.declared.Test.the-variants.{Passes, Fails}
+use Rattle.iff.specs.declared.Verdict.{Verdict}
+use Rattle.iff.specs.declared.Verdict.the-variants.{Fine, Fault}
+use Rattle.iff_rules.specs.Rows.{firstRowOf, blockRows, blocksRows, blocksOf, linesIn, stopsIn, asBlock, Context}
+use Rattle.iff_rules.specs.Load.{blockVerdict, serviceOf, timetblsVerdict}
+use Rattle.text.proofs.LineLaws.{lines-end}
+use Rattle.tables.proofs.Filled.{rows-in-fill}
+use Rattle.keys.specs.declared.KeyRun.{KeyRun}
+use Rattle.keys.specs.Lookup.{keysIn}
+use Rattle.keys.specs.Runs.{noKeys}
+use Rattle.keys.specs.Agree.{BlockKeys}
+use Rattle.keys.proofs.Runs.{run-rises}
+use Rattle.reading.specs.declared.RowsRead.{RowsRead}
+use Rattle.reading.specs.declared.RowsRead.the-variants.{AllRead, Stopped}
+use Rattle.reading.specs.Reading.{Begun, Split, RowsDone}
+use Rattle.timetbls.specs.declared.Added.{Added}
+use Rattle.timetbls.specs.declared.Added.the-variants.{Kept, Faulty}
+use Rattle.timetbls.specs.Blocks.{part, Clean, NextBlock, StrayTold, Holding, Addable, BlockAdded, blocksVerdict, BlocksReady, BlocksAdded, AfterFirst, BlocksRead}
+use Rattle.timetbls.proofs.RowLaws.{rows-count, key-skips, keys-nil}
+
+-- A LOOP OVER BLOCKS, at `at` and after `done` blocks: what is left says what all were to say, and leaves the rows that all were to leave
+pub record Adding (text : List ℕ) (from : ℕ) (co mo st fo was is : List ℕ) (at row done : ℕ) (run : KeyRun) : Type 0 where
+  pub inside : at ≤ length text
+  pub few : done ≤ at
+  pub kept : length is ≡ length was
+  pub clean : Clean (lines (drop at text))
+  pub holding : Holding is run row
+  pub room : (row + length (lines (drop at text))) * 7 ≤ length is
+  pub rows : rowsIn Timetbls was ++ blocksRows (blocksOf (lines (drop from text))) ≡ rowsIn Timetbls is ++ blocksRows (blocksOf (lines (drop at text)))
+  pub says : (c : Context) → BlockKeys c co mo st fo → blocksVerdict c (keysIn Timetbls was) 1 (lines (drop from text)) ≡ blocksVerdict c (keysIn Timetbls is) (suc done) (lines (drop at text))
+
+module _ (text : List ℕ) (from : ℕ) (co mo st fo was : List ℕ) where
+  pub adding-start : BlocksReady text from was → (run : KeyRun) → run ≡ noKeys → Adding text from co mo st fo was was from 1 0 run
+  adding-start p run e =
+      record {
+        inside = p .inside;
+        few = omega arith;
+        kept = refl;
+        clean = p .clean;
+        holding = rw e (p .holding);
+        room = p .room;
+        rows = refl;
+        says = λ c a. refl;
+      }
+
+  module _ (is : List ℕ) (at row done : ℕ) (run : KeyRun) (k : Adding text from co mo st fo was is at row done run) where
+    -- the next block
+    module _ (next : ℕ) (n : NextBlock text at next) where
+      abbrev b : List ℕ
+      b = part text at next
+
+      pub addable : Addable b is run row
+      addable = record { one = n .one; holding = k .holding; room = omega (arith, k .room, n .sized) }
+
+      step : (c : Context) → blocksVerdict c (keysIn Timetbls is) (suc done) (lines (drop at text))
+          ≡ orElse (blockVerdict c (keysIn Timetbls is) (suc done) (asBlock b)) (blocksVerdict c (keysIn Timetbls is ++ (serviceOf (asBlock b) ∷ [])) (suc (suc done)) (lines (drop next text)))
+      unfolding scan
+      step c = rw (n .blocks)
+
+      module _ (to : List ℕ) (r : Added) (y : BlockAdded b is to co mo st fo r) where
+        pub adding-faulty : (w : Reason) (j : ℕ) → r ≡ Faulty w j → BlocksAdded text from co mo st fo was to (Stopped w (At Timetbls (done + 1) j))
+        adding-faulty w j e =
+            record {
+              says = λ c a. rw add-one (sym (k .says c a ∙ step c ∙ rw (← (y .says c a (suc done)), e)));
+              filled = λ z. absurd (let q : _≡_ {A = ℕ} 0 1 = cc in omega arith);
+              rows = λ z. absurd (let q : _≡_ {A = ℕ} 0 1 = cc in omega arith);
+              rises = λ z. absurd (let q : _≡_ {A = ℕ} 0 1 = cc in omega arith);
+            }
+
+        pub adding-next : (with : KeyRun) (behind : ℕ) → r ≡ Kept with behind → length to ≡ length is → Adding text from co mo st fo was to next behind (done + 1) with
+        unfolding blocksRows
+        adding-next with behind e m =
+            let g = y .grown with behind e in
+            let z = rows-count (stopsIn (asBlock b)) (linesIn (asBlock b)) 1 (members (asBlock b)) in
+            let v : behind ≡ row + linesIn (asBlock b) = omega (arith, g .holding .rows, ap length (g .rows), length-append (rowsIn Timetbls is) (blockRows (asBlock b)), k .holding .rows) in
+            record {
+              inside = n .high;
+              few = omega (arith, k .few, n .low);
+              kept = m ∙ k .kept;
+              clean = n .clean;
+              holding = g .holding;
+              room = omega (arith, k .room, n .sized);
+              rows =
+                  k .rows ∙ ap (λ gs. rowsIn Timetbls is ++ blocksRows gs) (n .blocks)
+                  ∙ sym (append-assoc (rowsIn Timetbls is) (blockRows (asBlock b)) (blocksRows (blocksOf (lines (drop next text)))))
+                  ∙ ap (λ (rs : List Row). rs ++ blocksRows (blocksOf (lines (drop next text)))) (sym (g .rows));
+              says = λ c a. rw (add-one, g .seen) (k .says c a ∙ step c ∙ rw (← (y .says c a (suc done)), e));
+            }
+
+    -- no block is left
+    module _ (h : length text ≤ at) where
+      none : blocksOf (lines (drop at text)) ≡ []
+      unfolding groups
+      none = ap blocksOf (lines-end text at h)
+
+      pub adding-end : BlocksAdded text from co mo st fo was is (AllRead (run .rises))
+      unfolding scan blocksRows
+      adding-end =
+          record {
+            says = λ c a. sym (k .says c a ∙ rw none);
+            filled = λ z. k .holding .filled;
+            rows = λ z. sym (k .rows ∙ ap (λ gs. rowsIn Timetbls is ++ blocksRows gs) none ∙ append-nil (rowsIn Timetbls is));
+            rises = λ z. ap (λ (s : KeyRun). s .rises) (k .holding .services) ∙ run-rises (keysIn Timetbls is);
+          }
+
+-- A TABLE THAT HOLDS THE FIRST LINE'S ROW
+module _ (more : ℕ) (first : Row) (t : List ℕ) (b : Begun Timetbls more first t) where
+  pub begun-rows : rowsIn Timetbls t ≡ first ∷ []
+  begun-rows = ap (rowsIn Timetbls) (b .holds) ∙ rows-in-fill 7 (omega arith) (length t) (first ∷ []) ((b .width, b .used), tt) (omega (arith, b .room))
+
+  -- names no service
+  pub begun-keys : keysIn Timetbls t ≡ []
+  begun-keys = ap (keysOf Timetbls) begun-rows ∙ key-skips first [] false (b .other) refl ∙ keys-nil
+
+  begun-holding : Holding t noKeys 1
+  unfolding after
+  begun-holding = record { filled = rw begun-rows (b .holds); services = rw begun-keys; rows = ap length (sym begun-rows) }
+
+-- FOR CALLERS: what a first line leaves is what the reader of blocks asks
+pub after-first : (text t : List ℕ) (l : Line) (from : ℕ) → Split Timetbls text t l from → AfterFirst text from t
+after-first text t l from s = record { inside = s .inside; first = firstRowOf Timetbls true l; begun = s .begun }
+
+-- and what it tells is what is to be told of the rows behind that line's
+pub rows-read : (text t : List ℕ) (l : Line) (from : ℕ) → Split Timetbls text t l from → (co mo st fo is : List ℕ) (r : RowsRead) → BlocksRead text from co mo st fo t is r → (days : ℕ)
+    → RowsDone Timetbls days (λ c. BlockKeys c co mo st fo) (λ c. timetblsVerdict c (lines (drop from text))) (firstRowOf Timetbls true l) (blocksRows (blocksOf (lines (drop from text)))) t is r
+rows-read text t l from s co mo st fo is r y days = y .done days (firstRowOf Timetbls true l) (s .begun)
+
+module _ (text : List ℕ) (from : ℕ) (was : List ℕ) where
+  pub blocks-ready : AfterFirst text from was → (r : Test) → StrayTold (lines (drop from text)) r → r ≡ Passes → BlocksReady text from was
+  blocks-ready p r s e =
+      record {
+        inside = p .inside;
+        clean = s .clean e;
+        holding = begun-holding (length (lines (drop from text))) (p .first) was (p .begun);
+        room = omega (arith, p .begun .room);
+      }
+
+  module _ (co mo st fo : List ℕ) (x : Test) (s : StrayTold (lines (drop from text)) x) where
+    pub read-stray : (w : Reason) → x ≡ Fails w → BlocksRead text from co mo st fo was was (Stopped w (At Timetbls 0 2))
+    unfolding timetblsVerdict firstFault
+    read-stray w e =
+        record {
+          done =
+              λ days first b. record {
+                verdict = λ c d a. rw (← (s .says), e);
+                table = λ z. absurd (let q : _≡_ {A = ℕ} 0 1 = cc in omega arith);
+                rises = λ z. absurd (let q : _≡_ {A = ℕ} 0 1 = cc in omega arith);
+                kept = refl;
+              };
+        }
+
+    or-fine : (v : Verdict) → orElse v Fine ≡ v
+    or-fine Fine = refl
+    or-fine (Fault r p) = refl
+
+    verdict-is : (c : Context) → x ≡ Passes → timetblsVerdict c (lines (drop from text)) ≡ blocksVerdict c [] 1 (lines (drop from text))
+    unfolding timetblsVerdict firstFault
+    verdict-is c e = rw (s .clean e) (or-fine (blocksVerdict c [] 1 (lines (drop from text))))
+
+    pub read-all : x ≡ Passes → (is : List ℕ) (r : RowsRead) → BlocksAdded text from co mo st fo was is r → length is ≡ length was → BlocksRead text from co mo st fo was is r
+    read-all e is r y m =
+        record {
+          done =
+              λ days first b. let ls = lines (drop from text) in
+              let f = begun-rows (length ls) first was b in
+              let g = begun-keys (length ls) first was b in
+              record {
+                verdict = λ c d a. y .says c a ∙ ap (λ ks. blocksVerdict c ks 1 ls) g ∙ sym (verdict-is c e);
+                table = λ z. y .filled z ∙ ap (λ n. fill 7 n (rowsIn Timetbls is)) m ∙ ap (fill 7 (length was)) (y .rows z ∙ ap (λ (rs : List Row). rs ++ blocksRows (blocksOf ls)) f);
+                rises =
+                    λ z. y .rises z
+                    ∙ ap (λ (rs : List Row). rising (keysOf Timetbls rs)) (y .rows z ∙ ap (λ (rs : List Row). rs ++ blocksRows (blocksOf ls)) f)
+                    ∙ ap rising (key-skips first (blocksRows (blocksOf ls)) false (b .other) refl);
+                kept = m;
+              };
+        }

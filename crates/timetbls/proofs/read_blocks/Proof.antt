@@ -1,0 +1,34 @@
+-- `timetbls::read_blocks` meets its contract: a stray line is the first fault, or the blocks say all. Assumes nothing.
+use borrow.Author.Needs.{needs}
+use Rattle.timetbls.proofs.ReadLaws.{blocks-ready, read-stray, read-all}
+use Rattle.timetbls.proofs.read_blocks.Statement.{statement}
+use Rattle.timetbls.proofs.read_blocks.Tie as tie
+
+add-blocks-requires : tie.Need-add-blocks-requires
+add-blocks-requires c κs =
+    let x = c .before .before .before in
+    let s = x .before .before .before .before .before .before .before in
+    blocks-ready _ _ _ (s .pre) _ (x .stray-test .ensures) (c .before .enum-told .given .1)
+
+returns : tie.Need-returns
+returns c =
+    let x = c .before .before .before in
+    read-stray _ _ _ _ _ _ _ _ (x .stray-test .ensures) _ (c .before .why .given .1)
+
+returns-2 : tie.Need-returns-2
+returns-2 c =
+    let y = c .before .before in
+    let x = y .before .before .before .before in
+    read-all _ _ _ _ _ _ _ _ (x .stray-test .ensures) (y .before .before .enum-told .given .1) _ _ (y .add-blocks .ensures) (y .add-blocks .kept .1 .1 .0)
+
+pub read-blocks-spec : {M : Type 1} → statement M
+read-blocks-spec =
+    tie.close
+    (tie.spec
+    (λ c κs. search needs)
+    (λ c. search needs)
+    (λ c. search needs)
+    add-blocks-requires
+    returns
+    (λ c. search needs)
+    returns-2)

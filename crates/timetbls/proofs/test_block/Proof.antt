@@ -1,0 +1,22 @@
+-- `timetbls::test_block` meets its contract: the service is new if the table does not name it. Assumes nothing.
+use borrow.Author.Needs.{needs}
+use Rattle.timetbls.proofs.AddLaws.{tested}
+use Rattle.timetbls.proofs.test_block.Statement.{statement}
+use Rattle.timetbls.proofs.test_block.Tie as tie
+
+returns : tie.Need-returns
+returns c =
+    let f = c .before in
+    let v = f .before in
+    let s = v .before .before .before .before .before .before .before in
+    let a = s .args in
+    tested (a .block .now) (a .t .now) (a .companies .now) (a .modes .now) (a .stations .now) (a .footnotes .now) _ _ _ (s .pre .1) (v .service-of .ensures) (f .is-fresh .ensures) (c .check-block .ensures)
+
+pub test-block-spec : {M : Type 1} → statement M
+test-block-spec =
+    tie.close
+    (tie.spec
+    (λ c κs. search needs)
+    (λ c κs. c .before .before .before .before .before .before .before .pre .0)
+    (λ c κs. search needs)
+    returns)

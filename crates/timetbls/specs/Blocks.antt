@@ -1,0 +1,130 @@
+-- What the reader of TIMETBLS asks and tells.
+use Prim.Native.Nat.{ℕ, _+_, _-_, _*_, _≤_, _<_}
+use mathlib.Core.Path.{_≡_}
+use mathlib.Core.List.{List, [], _∷_, _++_}
+use mathlib.Core.Bool.{true, false}
+use lib.ListN.{length, getD, take, drop}
+use Rattle.iff.specs.Lists.{front, any}
+use Rattle.iff.specs.Refusals.{verdictAt, scan}
+use Rattle.iff.specs.Lines.{Line, lines, isHash}
+use Rattle.iff.specs.Columns.{recordOf}
+use Rattle.iff.specs.Tables.{Row, rowsIn, fill, rising}
+use Rattle.iff.specs.declared.File.the-variants.{Timetbls}
+use Rattle.iff.specs.declared.Place.the-variants.{At}
+use Rattle.iff.specs.declared.Test.{Test}
+use Rattle.iff.specs.declared.Test.the-variants.{Passes}
+use Rattle.iff.specs.declared.Verdict.{Verdict}
+use Rattle.iff.specs.declared.Verdict.the-variants.{Fine, Fault}
+use Rattle.iff_rules.specs.Rows.{asBlock, blocksOf, blockRows, blocksRows, linesIn, Context}
+use Rattle.iff_rules.specs.Load.{blockVerdict, serviceOf, strayVerdict, timetblsVerdict}
+use Rattle.records.specs.Facts.{Legible}
+use Rattle.keys.specs.declared.KeyRun.{KeyRun}
+use Rattle.keys.specs.Lookup.{keysIn}
+use Rattle.keys.specs.Runs.{noKeys, runOf}
+use Rattle.keys.specs.Agree.{BlockKeys}
+use Rattle.blocks.specs.declared.Checked.{Checked}
+use Rattle.blocks.specs.declared.Checked.the-variants.{Whole}
+use Rattle.blocks.specs.Whole.{checkedAt, WholeBlock}
+use Rattle.reading.specs.declared.RowsRead.{RowsRead}
+use Rattle.reading.specs.Reading.{Begun, RowsDone, rowsVerdict, risesOf}
+use Rattle.timetbls.specs.declared.Added.{Added}
+use Rattle.timetbls.specs.declared.Added.the-variants.{Kept, Faulty}
+
+-- A BLOCK THAT IS WRITTEN
+-- a line whose record can be read, by its own letter, into so many words
+abbrev pub Readable : List ℕ → ℕ → Type 0
+Readable body room = Legible 0 (recordOf Timetbls (getD body 0 0)) body room
+
+-- a block of k lines and n stops, and room for its rows from row i on
+pub record Placeable (b t : List ℕ) (k n i : ℕ) : Type 0 where
+  pub whole : WholeBlock b k n
+  pub room : (i + k) * 7 ≤ length t
+
+-- WHERE A BLOCK STANDS in a text
+abbrev pub part : List ℕ → ℕ → ℕ → List ℕ
+part t from to = take (to - from) (drop from t)
+
+-- one line beginning `#`, the first
+pub record OneBlock (b : List ℕ) : Type 0 where
+  pub some : 0 < length b
+  pub opens : isHash (asBlock b .top) ≡ true
+  pub single : any isHash (asBlock b .rest) ≡ false
+
+-- lines that begin with a block, or none
+abbrev pub Clean : List Line → Type 0
+Clean ls = front isHash ls ≡ []
+
+-- the block from `from` up to r, and those from r on
+pub record NextBlock (t : List ℕ) (from r : ℕ) : Type 0 where
+  pub low : from < r
+  pub high : r ≤ length t
+  pub one : OneBlock (part t from r)
+  pub blocks : blocksOf (lines (drop from t)) ≡ asBlock (part t from r) ∷ blocksOf (lines (drop r t))
+  pub clean : Clean (lines (drop r t))
+  pub sized : length (lines (drop from t)) ≡ linesIn (asBlock (part t from r)) + length (lines (drop r t))
+
+-- lines before the first block
+pub record StrayTold (ls : List Line) (r : Test) : Type 0 where
+  pub says : verdictAt (At Timetbls 0 2) r ≡ strayVerdict Timetbls (front isHash ls)
+  pub clean : r ≡ Passes → Clean ls
+
+-- A TABLE THAT HOLDS some rows and nothing behind them, and what is remembered of it: its services, and how many rows it has
+pub record Holding (t : List ℕ) (run : KeyRun) (row : ℕ) : Type 0 where
+  pub filled : t ≡ fill 7 (length t) (rowsIn Timetbls t)
+  pub services : run ≡ runOf (keysIn Timetbls t)
+  pub rows : row ≡ length (rowsIn Timetbls t)
+
+-- A BLOCK THAT IS TESTED after those of the table, whichever its ordinal
+pub record BlockTested (b t co mo st fo : List ℕ) (r : Checked) : Type 0 where
+  pub says : (c : Context) → BlockKeys c co mo st fo → (o : ℕ) → checkedAt o r ≡ blockVerdict c (keysIn Timetbls t) o (asBlock b)
+  pub whole : (k n : ℕ) → r ≡ Whole k n → WholeBlock b k n
+
+-- A BLOCK THAT IS ADDED
+pub record Addable (b t : List ℕ) (run : KeyRun) (row : ℕ) : Type 0 where
+  pub one : OneBlock b
+  pub holding : Holding t run row
+  pub room : (row + linesIn (asBlock b)) * 7 ≤ length t
+
+abbrev pub addedAt : ℕ → Added → Verdict
+addedAt o (Kept run row) = Fine
+addedAt o (Faulty w j) = Fault w (At Timetbls o j)
+
+pub record Grown (b was is : List ℕ) (run : KeyRun) (row : ℕ) : Type 0 where
+  pub holding : Holding is run row
+  pub rows : rowsIn Timetbls is ≡ rowsIn Timetbls was ++ blockRows (asBlock b)
+  pub seen : keysIn Timetbls is ≡ keysIn Timetbls was ++ (serviceOf (asBlock b) ∷ [])
+
+pub record BlockAdded (b was is co mo st fo : List ℕ) (r : Added) : Type 0 where
+  pub says : (c : Context) → BlockKeys c co mo st fo → (o : ℕ) → addedAt o r ≡ blockVerdict c (keysIn Timetbls was) o (asBlock b)
+  pub grown : (run : KeyRun) (row : ℕ) → r ≡ Kept run row → Grown b was is run row
+
+-- BLOCKS ONE AFTER THE OTHER, the first of which is block o, after blocks of some services
+abbrev pub blocksVerdict : Context → List ℕ → ℕ → List Line → Verdict
+blocksVerdict c seen o ls = scan (λ s i g. blockVerdict c s i g) (λ s g. s ++ (serviceOf g ∷ [])) seen o (blocksOf ls)
+
+pub record BlocksReady (text : List ℕ) (from : ℕ) (t : List ℕ) : Type 0 where
+  pub inside : from ≤ length text
+  pub clean : Clean (lines (drop from text))
+  pub holding : Holding t noKeys 1
+  pub room : (1 + length (lines (drop from text))) * 7 ≤ length t
+
+pub record BlocksAdded (text : List ℕ) (from : ℕ) (co mo st fo was is : List ℕ) (r : RowsRead) : Type 0 where
+  pub says : (c : Context) → BlockKeys c co mo st fo → rowsVerdict r ≡ blocksVerdict c (keysIn Timetbls was) 1 (lines (drop from text))
+  pub filled : rowsVerdict r ≡ Fine → is ≡ fill 7 (length is) (rowsIn Timetbls is)
+  pub rows : rowsVerdict r ≡ Fine → rowsIn Timetbls is ≡ rowsIn Timetbls was ++ blocksRows (blocksOf (lines (drop from text)))
+  pub rises : rowsVerdict r ≡ Fine → risesOf r ≡ rising (keysIn Timetbls is)
+
+-- THE CONTRACT: lines after a first line whose row alone stands in the table
+abbrev pub BegunAt : List ℕ → ℕ → Row → List ℕ → Type 0
+BegunAt text from first t = Begun Timetbls (length (lines (drop from text))) first t
+
+pub record AfterFirst (text : List ℕ) (from : ℕ) (t : List ℕ) : Type 0 where
+  pub inside : from ≤ length text
+  pub first : Row
+  pub begun : BegunAt text from first t
+
+-- whichever row stands there, and on whatever days
+pub record BlocksRead (text : List ℕ) (from : ℕ) (co mo st fo was is : List ℕ) (r : RowsRead) : Type 0 where
+  pub done :
+      (days : ℕ) (first : Row) → BegunAt text from first was
+      → RowsDone Timetbls days (λ c. BlockKeys c co mo st fo) (λ c. timetblsVerdict c (lines (drop from text))) first (blocksRows (blocksOf (lines (drop from text)))) was is r

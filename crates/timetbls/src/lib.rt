@@ -1,0 +1,222 @@
+// TIMETBLS after its first line: each block is checked before anything of it is written, and the first fault is told with its place.
+ghost use mathlib.Core.Path.{_≡_};
+ghost use mathlib.Core.Bool.{true};
+ghost use mathlib.Core.List.{_++_};
+ghost use Prim.Native.Nat.{_+_, _*_, _≤_, _<_};
+ghost use lib.ListN.{length, take, drop};
+ghost use Rattle.iff.specs.Lines.{lines, isHash};
+ghost use Rattle.iff.specs.Tables.{joined, putRow};
+ghost use Rattle.iff.specs.declared.File.the-variants.{Timetbls};
+ghost use Rattle.iff_rules.specs.Rows.{asBlock, blockRow, blockRows};
+ghost use Rattle.iff_rules.specs.Load.{serviceOf};
+ghost use Rattle.keys.specs.Lookup.{keysIn};
+ghost use Rattle.keys.specs.Runs.{runOf, stepRun};
+ghost use Rattle.timetbls.specs.Blocks.{Readable, Placeable, Clean, NextBlock, StrayTold, BlockTested, Addable, BlockAdded, BlocksReady, BlocksAdded, AfterFirst, BlocksRead};
+
+// What became of a block: what is remembered of the services with it, and where the next block's rows go; or why it is refused, and at which line.
+pub enum Added {
+    Kept(keys::KeyRun, usize),
+    Faulty(iff::Reason, u64),
+}
+
+// Rows.
+
+// The row of line `j` of a block of `k` lines and `n` stops: its record, and the line's number last. The `#` counts lines and stops.
+fn fill_row(line: &[u8], k: u64, n: u64, j: u64, row: &mut [u64])
+    requires { ⌜ Readable (now line) (length (now row)) × (length (now row) ≡ 7) ⌝ }
+    ensures { λ _. ⌜ now (row .exit) ≡ blockRow n k j (record { body = now (line .entry); ended = true }) ⌝ }
+{
+    let letter = text::first_byte(line);
+    let kind = records::record_of(iff::File::Timetbls, letter);
+    records::put_words(kind, letter as u64, 0, n, line, row);
+    row[6] = j;
+    if letter != b'#' {
+        return;
+    }
+    row[2] = k;
+    row[3] = n;
+}
+
+// The same, as row `i` of a table.
+fn put_line(line: &[u8], k: u64, n: u64, j: u64, t: &mut [u64], i: usize)
+    requires { ⌜ Readable (now line) 7 × (i * 7 + 7 ≤ length (now t)) ⌝ }
+    ensures { λ _. ⌜ now (t .exit) ≡ putRow 7 (now (t .entry)) i (blockRow n k j (record { body = now (line .entry); ended = true })) ⌝ }
+{
+    let mut row: [u64; 7] = [0; 7];
+    fill_row(line, k, n, j, &mut row);
+    tables::put_row(t, 7, i, &row);
+}
+
+// The rows of a block of `k` lines and `n` stops that was found whole, from row `start` on. What stands before and behind them is kept.
+pub fn write_block(block: &[u8], k: u64, n: u64, t: &mut [u64], start: usize)
+    requires { ⌜ Placeable (now block) (now t) k n start ⌝ }
+    ensures { λ _. ⌜ now (t .exit) ≡ take (start * 7) (now (t .entry)) ++ (joined (blockRows (asBlock (now (block .entry)))) ++ drop ((start + k) * 7) (now (t .entry))) ⌝ }
+{
+    let mut at: usize = 0;
+    let mut done: usize = 0;
+    while at < block.len() {
+        let number = done + 1;
+        let span = text::line_at(block, at);
+        let end = span.end;
+        put_line(&block[at..end], k, n, number as u64, t, start + done);
+        at = span.next;
+        done = number;
+    }
+}
+
+// Blocks.
+
+// Where the block that begins at `from` ends: at the next line beginning `#`, or at the text's end.
+fn next_head(text: &[u8], from: usize) -> usize
+    requires { ⌜ (from < length (now text)) × Clean (lines (drop from (now text))) ⌝ }
+    ensures { λ r. ⌜ NextBlock (now (text .entry)) from r ⌝ }
+{
+    let head = text::line_at(text, from);
+    let mut at = head.next;
+    while at < text.len() {
+        let span = text::line_at(text, at);
+        let end = span.end;
+        if text::first_byte(&text[at..end]) == b'#' {
+            return at;
+        }
+        at = span.next;
+    }
+    at
+}
+
+// A block's service must be new to those before it, whose rows the table holds.
+fn test_block(
+    block: &[u8],
+    run: keys::KeyRun,
+    t: &[u64],
+    companies: &[u64],
+    modes: &[u64],
+    stations: &[u64],
+    footnotes: &[u64],
+) -> blocks::Checked
+    requires { ⌜ (run ≡ runOf (keysIn Timetbls (now t))) × (isHash (asBlock (now block) .top) ≡ true) ⌝ }
+    ensures { λ r. ⌜ BlockTested (now (block .entry)) (now (t .entry)) (now (companies .entry)) (now (modes .entry)) (now (stations .entry)) (now (footnotes .entry)) r ⌝ }
+{
+    let service = blocks::service_of(block);
+    let fresh = keys::is_fresh(iff::File::Timetbls, run, t, service);
+    blocks::check_block(block, fresh, companies, modes, stations, footnotes)
+}
+
+// What is remembered of the services with this block's.
+fn after_block(run: keys::KeyRun, block: &[u8]) -> keys::KeyRun
+    ensures { λ r. ⌜ r ≡ stepRun run (serviceOf (asBlock (now (block .entry)))) ⌝ }
+{
+    let service = blocks::service_of(block);
+    keys::next_run(run, service)
+}
+
+// One block: checked, and then written behind the `row` rows that the table holds.
+fn add_block(
+    block: &[u8],
+    run: keys::KeyRun,
+    row: usize,
+    t: &mut [u64],
+    companies: &[u64],
+    modes: &[u64],
+    stations: &[u64],
+    footnotes: &[u64],
+) -> Added
+    requires { ⌜ Addable (now block) (now t) run row ⌝ }
+    ensures { λ r. ⌜ BlockAdded (now (block .entry)) (now (t .entry)) (now (t .exit)) (now (companies .entry)) (now (modes .entry)) (now (stations .entry)) (now (footnotes .entry)) r ⌝ }
+{
+    match test_block(block, run, t, companies, modes, stations, footnotes) {
+        blocks::Checked::Broken(why, line) => Added::Faulty(why, line),
+        blocks::Checked::Whole(k, n) => {
+            write_block(block, k, n, t, row);
+            let next = row + k as usize;
+            Added::Kept(after_block(run, block), next)
+        }
+    }
+}
+
+// The blocks from `from` on, the first of them block 1.
+fn add_blocks(
+    text: &[u8],
+    from: usize,
+    t: &mut [u64],
+    companies: &[u64],
+    modes: &[u64],
+    stations: &[u64],
+    footnotes: &[u64],
+) -> reading::RowsRead
+    requires { ⌜ BlocksReady (now text) from (now t) ⌝ }
+    ensures { λ r. ⌜ BlocksAdded (now (text .entry)) from (now (companies .entry)) (now (modes .entry)) (now (stations .entry)) (now (footnotes .entry)) (now (t .entry)) (now (t .exit)) r ⌝ }
+{
+    let mut at = from;
+    let mut row: usize = 1;
+    let mut done: u64 = 0;
+    let mut run = keys::no_keys();
+    while at < text.len() {
+        let ordinal = done + 1;
+        let next = next_head(text, at);
+        match add_block(
+            &text[at..next],
+            run,
+            row,
+            t,
+            companies,
+            modes,
+            stations,
+            footnotes,
+        ) {
+            Added::Faulty(why, line) => {
+                let place = iff::Place::At(iff::File::Timetbls, ordinal, line);
+                return reading::RowsRead::Stopped(why, place);
+            }
+            Added::Kept(with, behind) => {
+                at = next;
+                row = behind;
+                done = ordinal;
+                run = with;
+            }
+        }
+    }
+    reading::RowsRead::AllRead(run.rises)
+}
+
+// Lines before the first `#` belong to no block: the first of them is refused, by its own letter.
+fn stray_test(text: &[u8], from: usize) -> iff::Test
+    requires { ⌜ from ≤ length (now text) ⌝ }
+    ensures { λ r. ⌜ StrayTold (lines (drop from (now (text .entry)))) r ⌝ }
+{
+    if text.len() <= from {
+        return iff::Test::Passes;
+    }
+    let span = text::line_at(text, from);
+    let end = span.end;
+    let letter = text::first_byte(&text[from..end]);
+    if letter == b'#' {
+        return iff::Test::Passes;
+    }
+    if records::is_known(iff::File::Timetbls, letter) {
+        return iff::Test::Fails(iff::Reason::Order);
+    }
+    iff::Test::Fails(iff::Reason::Layout)
+}
+
+// The lines after the first, which begin at `from`, into a table that holds the first line's row. A stray line is line 2 of block 0.
+pub fn read_blocks(
+    text: &[u8],
+    from: usize,
+    t: &mut [u64],
+    companies: &[u64],
+    modes: &[u64],
+    stations: &[u64],
+    footnotes: &[u64],
+) -> reading::RowsRead
+    requires { ⌜ AfterFirst (now text) from (now t) ⌝ }
+    ensures { λ r. ⌜ BlocksRead (now (text .entry)) from (now (companies .entry)) (now (modes .entry)) (now (stations .entry)) (now (footnotes .entry)) (now (t .entry)) (now (t .exit)) r ⌝ }
+{
+    match stray_test(text, from) {
+        iff::Test::Fails(why) => {
+            let place = iff::Place::At(iff::File::Timetbls, 0, 2);
+            reading::RowsRead::Stopped(why, place)
+        }
+        iff::Test::Passes => add_blocks(text, from, t, companies, modes, stations, footnotes),
+    }
+}
