@@ -4,6 +4,12 @@ use mathlib.Core.List.{List, [], _∷_}
 use lib.IntN.{ℤ}
 use Rattle.iff.specs.Refusals.{number}
 use Rattle.iff.specs.declared.Reason.{Reason}
+use Rattle.iff.specs.declared.Place.{Place}
+use Rattle.iff.specs.declared.Place.the-variants.{Nowhere}
+use Rattle.iff.specs.declared.Test.{Test}
+use Rattle.iff.specs.declared.Test.the-variants.{Passes, Fails}
+use Rattle.iff.specs.declared.Answer.{Answer}
+use Rattle.iff.specs.declared.Answer.the-variants.{Accepted, Refused}
 use Rattle.iff_desk.specs.declared.Running.{Running}
 use Rattle.iff_desk.specs.declared.Running.the-variants.{Runs, Rests, RunningRefused}
 use Rattle.iff_desk.specs.declared.StopTimes.{StopTimes}
@@ -15,6 +21,28 @@ use Rattle.iff_desk.specs.declared.Source.{Source}
 use Rattle.iff_desk.specs.declared.Source.the-variants.{FromChanges, FromStations, FromXchanges}
 use Rattle.iff_desk.specs.declared.Change.{Change}
 use Rattle.iff_desk.specs.declared.Change.the-variants.{ChangeRefused, NoBefore, NoBarred, NoShort, Yes, Unsettled}
+
+-- a load or an amendment: the refusal's number, 0 where it is accepted; its place; the days and services of one that is accepted
+abbrev pub answerNumber : Answer → ℕ
+answerNumber (Accepted days services) = 0
+answerNumber (Refused r p) = number r
+
+abbrev pub answerPlace : Answer → Place
+answerPlace (Accepted days services) = Nowhere
+answerPlace (Refused r p) = p
+
+abbrev pub answerDays : Answer → ℕ
+answerDays (Accepted days services) = days
+answerDays (Refused r p) = 0
+
+abbrev pub answerServices : Answer → ℕ
+answerServices (Accepted days services) = services
+answerServices (Refused r p) = 0
+
+-- name and lines now: 0 where there is a part
+abbrev pub partNumber : Test → ℕ
+partNumber Passes = 0
+partNumber (Fails r) = number r
 
 -- the refusal's number; 0 where the question is answered
 abbrev pub runningNumber : Running → ℕ
