@@ -1,19 +1,18 @@
 -- A whole file of rows. Assumes nothing.
-use Prim.Native.Nat.{ℕ, suc, _+_, _*_, _≤_, _<_}
+use Prim.Native.Nat.{ℕ}
 use mathlib.Core.Path.{_≡_, refl, ap, sym, _∙_}
 use mathlib.Core.List.{List, [], _∷_, _++_, map, append-nil}
 use mathlib.Core.Bool.{Bool, true, false, false≢true}
 use native.Mathlib.Omega.{arith}
 use lib.ListN.{length, getD, take, drop}
 use lib.Seq.{take-at}
-use Rattle.iff.specs.Lines.{Line, lines, noLine, firstLine, width}
+use Rattle.iff.specs.Lines.{Line, lines}
 use Rattle.iff.specs.Tables.{Row, rowWidth, joined, fill}
 use Rattle.iff.specs.declared.File.{File}
 use Rattle.iff.specs.declared.File.the-variants.{Delivery, Company, Country, Trnsmode, Timezone, Stations, Footnote, Timetbls, Changes, Xfootnote, Xchanges}
 use Rattle.iff.specs.declared.Verdict.{Verdict}
 use Rattle.iff_rules.specs.Rows.{rowOf, laterRows, firstRowOf, Context}
 use Rattle.iff_rules.specs.Load.{plainVerdict, laterVerdict}
-use Rattle.text.proofs.LineLaws.{lines-step}
 use Rattle.reading.specs.declared.RowsRead.{RowsRead}
 use Rattle.keys.specs.Agree.{isPlainFile}
 use Rattle.reading.specs.Reading.{headLine, Begun, Split, RowsDone}
@@ -57,12 +56,6 @@ later-rows Timetbls days ls e = absurd (false≢true e)
 later-rows Changes days ls e = absurd (false≢true e)
 later-rows Xfootnote days ls e = absurd (false≢true e)
 later-rows Xchanges days ls e = absurd (false≢true e)
-
--- a text that is not empty has a first line
-pub some-lines : (text : List ℕ) → 0 < length text → lines text ≡ headLine text ∷ drop 1 (lines text)
-some-lines text h =
-    let e : lines text ≡ firstLine text ∷ lines (drop (width text + 2) text) = lines-step text h in
-    rw e
 
 -- the row that begins a table stands first in it
 first-in : (f : File) (n : ℕ) (first : Row) (t : List ℕ) → length first ≡ rowWidth f → t ≡ fill (rowWidth f) n (first ∷ []) → firstIn f t ≡ first

@@ -1,11 +1,13 @@
-// The lines of a file of groups after its first line: TIMEZONE, FOOTNOTE, CHANGES, XFOOTNOTE, XCHANGES. Every line's tests in their order, its row
-// into the table, and the first fault with its place.
+// The files of groups: TIMEZONE, FOOTNOTE, CHANGES, XFOOTNOTE, XCHANGES. Every line's tests in their order, its row into the table, and the first
+// fault with its place.
 use iff::File;
 use iff::Place;
 use iff::Reason;
 use iff::Record;
 use iff::Test;
+use iff::Verdict;
 use keys::KeyRun;
+use reading::Begin;
 use reading::RowsRead;
 ghost use mathlib.Core.Path.{_≡_};
 ghost use mathlib.Core.Bool.{true, _&&_, cond};
@@ -23,7 +25,8 @@ ghost use Rattle.iff_rules.specs.Load.{groupsVerdict};
 ghost use Rattle.records.specs.Layouts.{lineOf};
 ghost use Rattle.keys.specs.Lookup.{keysIn};
 ghost use Rattle.keys.specs.Agree.{GroupKeys, isGroupFile};
-ghost use Rattle.reading.specs.Reading.{RowsDone};
+ghost use Rattle.iff.specs.Refusals.{fine};
+ghost use Rattle.reading.specs.Reading.{Ready, RowsDone, FileRead};
 ghost use Rattle.groups.specs.Tests.{placeTest, groupRowTest, whole};
 ghost use Rattle.groups.specs.Facts.{LineRead, RowMade, Beside, openRows, runAfter, RowTested, addDue, lineDue, Stepped, Groups};
 
@@ -459,4 +462,54 @@ pub fn read_groups(
     }
     let run = group.run;
     RowsRead::AllRead(run.rises)
+}
+
+// A whole file of groups, after a verdict on what came before it: a fault is handed on, and an absent file has none.
+pub fn read_group_file(
+    file: File,
+    v: Verdict,
+    days: usize,
+    text: &[u8],
+    header: &[u8],
+    t: &mut [u64],
+    companies: &[u64],
+    modes: &[u64],
+    stations: &[u64],
+    services: &[u64],
+    xfootnotes: &[u64],
+) -> Verdict
+    requires { ⌜ (isGroupFile file ≡ true) × (fine v ≡ true → Ready file (now text) (now t)) ⌝ }
+    ensures { λ r. ⌜ FileRead file days (λ c. GroupKeys c (now (companies .entry)) (now (modes .entry)) (now (stations .entry)) (now (services .entry)) (now (xfootnotes .entry))) (now (header .entry)) (now (text .entry)) v (now (t .entry)) (now (t .exit)) r ⌝ }
+{
+    match v {
+        Verdict::Fault(r, p) => Verdict::Fault(r, p),
+        Verdict::Fine => {
+            if text.len() == 0 {
+                return Verdict::Fine;
+            }
+            match heads::begin_file(file, text, header, t) {
+                Begin::Broken(r) => Verdict::Fault(r, Place::At(file, 0, 1)),
+                Begin::Rest(from) => {
+                    match read_groups(
+                        file,
+                        days,
+                        text,
+                        from,
+                        t,
+                        companies,
+                        modes,
+                        stations,
+                        services,
+                        xfootnotes,
+                    ) {
+                        RowsRead::Stopped(r, p) => Verdict::Fault(r, p),
+                        RowsRead::AllRead(rises) => {
+                            heads::set_rises(t, rises);
+                            Verdict::Fine
+                        }
+                    }
+                }
+            }
+        }
+    }
 }

@@ -9,7 +9,7 @@ use lib.ListN.{length, set, drop, replicate, length-append, length-set}
 use lib.Seq.{set-append-left}
 use Rattle.iff.specs.Lists.{same}
 use Rattle.iff.specs.Refusals.{orElse, firstFault, verdictAt, fine}
-use Rattle.iff.specs.Lines.{Line, lines}
+use Rattle.iff.specs.Lines.{Line, lines, firstLine, width}
 use Rattle.iff.specs.Tables.{Row, rowWidth, padded, joined, fill, keysOf, rising}
 use Rattle.iff.specs.Values.{words, fieldWords}
 use Rattle.iff.specs.declared.File.{File}
@@ -23,6 +23,7 @@ use Rattle.iff.specs.declared.Verdict.{Verdict}
 use Rattle.iff.specs.declared.Verdict.the-variants.{Fine, Fault}
 use Rattle.iff_rules.specs.Rows.{flag, firstRowOf, laterRows, rowsOfLines, Context}
 use Rattle.iff_rules.specs.Load.{firstLineTest, laterVerdict, fileVerdict}
+use Rattle.text.proofs.LineLaws.{lines-step}
 use Rattle.tables.proofs.Filled.{fill-none}
 use Rattle.reading.specs.Reading.{headLine, Ready, Begun, Split, FirstRead, RowsDone, FileRead, beginTest, rowsVerdict, risesOf}
 use Rattle.reading.specs.declared.Begin.{Begin}
@@ -69,6 +70,12 @@ flag-set f n b l rs =
 pub flag-place : (f : File) (n : ℕ) (l : Line) (rs : List Row) → 5 < length (fill (rowWidth f) n (firstRowOf f true l ∷ rs))
 unfolding fill joined
 flag-place f n l rs = rw (length-append, length-append) (omega (arith, row-long f l))
+
+-- a text that is not empty has a first line
+pub some-lines : (text : List ℕ) → 0 < length text → lines text ≡ headLine text ∷ drop 1 (lines text)
+some-lines text h =
+    let e : lines text ≡ firstLine text ∷ lines (drop (width text + 2) text) = lines-step text h in
+    rw e
 
 -- an absent file: no fault, no row
 module _ (f : File) (days : ℕ) (Agree : Context → Type 0) (header text t : List ℕ) where

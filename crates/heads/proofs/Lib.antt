@@ -1,3 +1,4 @@
 pub mod HeadLaws
 pub mod BeginLaws
 pub mod FileLaws
+pub mod DeliveryLaws

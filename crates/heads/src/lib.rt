@@ -1,8 +1,10 @@
 // First lines: their tests, their rows, and what the readers of the lines after them share.
 use iff::File;
+use iff::Place;
 use iff::Reason;
 use iff::Record;
 use iff::Test;
+use iff::Verdict;
 use reading::Begin;
 ghost use mathlib.Core.Path.{_≡_};
 ghost use mathlib.Core.Bool.{true};
@@ -14,7 +16,8 @@ ghost use Rattle.iff.specs.declared.File.the-variants.{Delivery};
 ghost use Rattle.iff_rules.specs.Meaning.{firstMeaning};
 ghost use Rattle.iff_rules.specs.Load.{firstLineTest};
 ghost use Rattle.records.specs.Layouts.{lineOf};
-ghost use Rattle.reading.specs.Reading.{FirstLegible, FirstRow, isNumbered, headLine, Ready, FirstRead};
+ghost use Rattle.reading.specs.Reading.{FirstLegible, FirstRow, isNumbered, headLine, Ready, FirstRead, DeliveryRead};
+ghost use Rattle.iff.specs.Refusals.{fine};
 
 // The days that a first line names. Its layout and digits are right.
 fn days_right(line: &[u8]) -> bool
@@ -111,4 +114,30 @@ pub fn set_rises(t: &mut [u64], rises: bool)
     ensures { λ _. ⌜ now (t .exit) ≡ set (now (t .entry)) 5 (flag rises) ⌝ }
 {
     t[5] = flag_of(rises);
+}
+
+// DELIVERY, after a verdict on what came before it: its first line, which is as itself, and no line more.
+pub fn read_delivery(v: Verdict, text: &[u8], t: &mut [u64]) -> Verdict
+    requires { ⌜ (fine v ≡ true → Ready Delivery (now text) (now t)) ⌝ }
+    ensures { λ r. ⌜ DeliveryRead (now (text .entry)) v (now (t .entry)) (now (t .exit)) r ⌝ }
+{
+    match v {
+        Verdict::Fault(r, p) => Verdict::Fault(r, p),
+        Verdict::Fine => {
+            if text.len() == 0 {
+                return Verdict::Fine;
+            }
+            let s = text::line_at(text, 0);
+            let end = s.end;
+            match begin_file(File::Delivery, text, &text[0..end], t) {
+                Begin::Broken(r) => Verdict::Fault(r, Place::At(File::Delivery, 0, 1)),
+                Begin::Rest(from) => {
+                    if from < text.len() {
+                        return Verdict::Fault(Reason::Order, Place::At(File::Delivery, 0, 2));
+                    }
+                    Verdict::Fine
+                }
+            }
+        }
+    }
 }

@@ -18,7 +18,7 @@ use Rattle.iff.specs.declared.Test.the-variants.{Passes, Fails}
 use Rattle.iff.specs.declared.Verdict.{Verdict}
 use Rattle.iff.specs.declared.Verdict.the-variants.{Fine, Fault}
 use Rattle.iff_rules.specs.Rows.{firstRowOf, rowsOfLines, Context}
-use Rattle.iff_rules.specs.Load.{firstLineTest, fileVerdict}
+use Rattle.iff_rules.specs.Load.{firstLineTest, deliveryVerdict, fileVerdict}
 use Rattle.reading.specs.declared.Begin.{Begin}
 use Rattle.reading.specs.declared.Begin.the-variants.{Rest, Broken}
 use Rattle.reading.specs.declared.RowsRead.{RowsRead}
@@ -101,4 +101,10 @@ pub record RowsDone (f : File) (days : ℕ) (Agree : Context → Type 0) (due : 
 pub record FileRead (f : File) (days : ℕ) (Agree : Context → Type 0) (header text : List ℕ) (v : Verdict) (was is : List ℕ) (r : Verdict) : Type 0 where
   pub verdict : (c : Context) → c .days ≡ days → Agree c → r ≡ orElse v (fileVerdict c header f (lines text))
   pub table : fine r ≡ true → is ≡ fill (rowWidth f) (length was) (rowsOfLines days f (lines text))
+  pub kept : length is ≡ length was
+
+-- DELIVERY, which has its first line alone
+pub record DeliveryRead (text : List ℕ) (v : Verdict) (was is : List ℕ) (r : Verdict) : Type 0 where
+  pub verdict : r ≡ orElse v (deliveryVerdict (lines text))
+  pub table : fine r ≡ true → is ≡ fill (rowWidth Delivery) (length was) (rowsOfLines 0 Delivery (lines text))
   pub kept : length is ≡ length was

@@ -1,4 +1,4 @@
-// TIMETBLS after its first line: each block is checked before anything of it is written, and the first fault is told with its place.
+// TIMETBLS, its first line and the blocks after it: each block is checked before anything of it is written, and the first fault is told with its place.
 ghost use mathlib.Core.Path.{_≡_};
 ghost use mathlib.Core.Bool.{true};
 ghost use mathlib.Core.List.{_++_};
@@ -9,7 +9,10 @@ ghost use Rattle.iff.specs.Tables.{joined, putRow};
 ghost use Rattle.iff.specs.declared.File.the-variants.{Timetbls};
 ghost use Rattle.iff_rules.specs.Rows.{asBlock, blockRow, blockRows};
 ghost use Rattle.iff_rules.specs.Load.{serviceOf};
+ghost use Rattle.iff.specs.Refusals.{fine};
+ghost use Rattle.keys.specs.Agree.{BlockKeys};
 ghost use Rattle.keys.specs.Lookup.{keysIn};
+ghost use Rattle.reading.specs.Reading.{Ready, FileRead};
 ghost use Rattle.keys.specs.Runs.{runOf, stepRun};
 ghost use Rattle.timetbls.specs.Blocks.{Readable, Placeable, Clean, NextBlock, StrayTold, BlockTested, Addable, BlockAdded, BlocksReady, BlocksAdded, AfterFirst, BlocksRead};
 
@@ -218,5 +221,45 @@ pub fn read_blocks(
             reading::RowsRead::Stopped(why, place)
         }
         iff::Test::Passes => add_blocks(text, from, t, companies, modes, stations, footnotes),
+    }
+}
+
+// The whole of TIMETBLS, after a verdict on what came before it: a fault is handed on, and an absent file has none.
+pub fn read_timetbls(
+    v: iff::Verdict,
+    days: usize,
+    text: &[u8],
+    header: &[u8],
+    t: &mut [u64],
+    companies: &[u64],
+    modes: &[u64],
+    stations: &[u64],
+    footnotes: &[u64],
+) -> iff::Verdict
+    requires { ⌜ (fine v ≡ true → Ready Timetbls (now text) (now t)) ⌝ }
+    ensures { λ r. ⌜ FileRead Timetbls days (λ c. BlockKeys c (now (companies .entry)) (now (modes .entry)) (now (stations .entry)) (now (footnotes .entry))) (now (header .entry)) (now (text .entry)) v (now (t .entry)) (now (t .exit)) r ⌝ }
+{
+    match v {
+        iff::Verdict::Fault(r, p) => iff::Verdict::Fault(r, p),
+        iff::Verdict::Fine => {
+            if text.len() == 0 {
+                return iff::Verdict::Fine;
+            }
+            match heads::begin_file(iff::File::Timetbls, text, header, t) {
+                reading::Begin::Broken(r) => iff::Verdict::Fault(
+                    r,
+                    iff::Place::At(iff::File::Timetbls, 0, 1),
+                ),
+                reading::Begin::Rest(from) => {
+                    match read_blocks(text, from, t, companies, modes, stations, footnotes) {
+                        reading::RowsRead::Stopped(r, p) => iff::Verdict::Fault(r, p),
+                        reading::RowsRead::AllRead(rises) => {
+                            heads::set_rises(t, rises);
+                            iff::Verdict::Fine
+                        }
+                    }
+                }
+            }
+        }
     }
 }

@@ -11,8 +11,8 @@ use Rattle.iff.specs.Refusals.{fine}
 use Rattle.iff_rules.specs.Rows.{rowOf}
 use Rattle.keys.specs.Agree.{StationKeys}
 use Rattle.reading.specs.Reading.{Ready, headLine, beginTest}
-use Rattle.heads.proofs.FileLaws.{absent, passed, first-refused, rows-refused, rows-accepted, flag-fits}
-use Rattle.files.proofs.WholeLaws.{some-lines, plain-begun, begun-first, later-rows, as-later}
+use Rattle.heads.proofs.FileLaws.{some-lines, absent, passed, first-refused, rows-refused, rows-accepted, flag-fits}
+use Rattle.files.proofs.WholeLaws.{plain-begun, begun-first, later-rows, as-later}
 use Rattle.files.proofs.read_plain_file.Statement.{statement}
 use Rattle.files.proofs.read_plain_file.Tie as tie
 

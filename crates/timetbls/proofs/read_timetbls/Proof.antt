@@ -1,0 +1,104 @@
+-- `timetbls::read_timetbls` meets its contract: a first line and the blocks after it make the file. Assumes nothing.
+use Prim.Native.Nat.{_<_}
+use mathlib.Core.Path.{refl, ap}
+use native.Mathlib.Omega.{arith}
+use borrow.Author.Needs.{needs}
+use lib.ListN.{length, drop}
+use Rattle.iff.specs.Lines.{lines}
+use Rattle.iff.specs.Refusals.{fine}
+use Rattle.iff.specs.declared.File.the-variants.{Timetbls}
+use Rattle.keys.specs.Agree.{BlockKeys}
+use Rattle.reading.specs.Reading.{beginTest}
+use Rattle.heads.proofs.FileLaws.{some-lines, absent, passed, first-refused, rows-refused, rows-accepted, flag-fits}
+use Rattle.timetbls.proofs.read_timetbls.Statement.{statement}
+use Rattle.timetbls.proofs.read_timetbls.Tie as tie
+
+returns : tie.Need-returns
+returns c =
+    let e = c .before in
+    let s = e .before .before .before .before .before .before .before .before .before in
+    rw (e .enum-told .given .1) (absent Timetbls (s .args .days) (λ k. BlockKeys k (s .args .companies .now) (s .args .modes .now) (s .args .stations .now) (s .args .footnotes .now)) (s .args .header .now) (s .args .text .now) (s .args .t .now) (c .if1 .taken) (s .pre (ap fine (e .enum-told .given .1))))
+
+begin-file-requires : tie.Need-begin-file-requires
+begin-file-requires c κs =
+    let i = c .before in
+    let e = i .before in
+    let s = e .before .before .before .before .before .before .before .before .before in
+    let more : 0 < length (s .args .text .now) = omega (arith, i .if1 .left) in
+    (more, s .pre (ap fine (e .enum-told .given .1)))
+
+read-blocks-requires : tie.Need-read-blocks-requires
+read-blocks-requires c κs =
+    let b = c .before .before .before .before .before .before in
+    let s = b .before .before .before .before .before .before .before .before .before .before .before .before in
+    let split = b .begin-file .ensures .rest _ (c .before .before .from .given .1) in
+    record { inside = split .inside; first = _; begun = split .begun }
+
+set-rises-requires : tie.Need-set-rises-requires
+set-rises-requires c κs =
+    let d = c .before .before .before .before .before .before in
+    let b = d .before .before .before .before .before .before .before in
+    let e = b .before .before .before in
+    let s = e .before .before .before .before .before .before .before .before .before in
+    let from = d .before .before .before .from .given in
+    let split = b .begin-file .ensures .rest _ (from .1) in
+    let ls = lines (drop (from .0 .0) (s .args .text .now)) in
+    flag-fits Timetbls (s .args .days) (λ k. BlockKeys k (s .args .companies .now) (s .args .modes .now) (s .args .stations .now) (s .args .footnotes .now)) (s .args .header .now) (s .args .text .now) (s .args .t .now) ls (split .all) _ (b .begin-file .ensures .test) (ap beginTest (from .1)) _ _ _ _ _ (d .read-blocks .ensures .done (s .args .days) _ (split .begun)) (b .begin-file .ensures .kept) _ _ (c .before .before .rises .given .1) refl refl refl
+
+returns-2 : tie.Need-returns-2
+returns-2 c =
+    let s = c .before .before .before .before .before .before .before .before .before .before in
+    rw (c .before .v .given .1) (passed Timetbls (s .args .days) (λ k. BlockKeys k (s .args .companies .now) (s .args .modes .now) (s .args .stations .now) (s .args .footnotes .now)) (s .args .header .now) (s .args .text .now) (s .args .t .now) _ _ _ refl)
+
+returns-3 : tie.Need-returns-3
+returns-3 c =
+    let b = c .before .before .before .before .before in
+    let i = b .before .before in
+    let e = i .before in
+    let s = e .before .before .before .before .before .before .before .before .before in
+    let more : 0 < length (s .args .text .now) = omega (arith, i .if1 .left) in
+    rw (e .enum-told .given .1) (first-refused Timetbls (s .args .days) (λ k. BlockKeys k (s .args .companies .now) (s .args .modes .now) (s .args .stations .now) (s .args .footnotes .now)) (s .args .header .now) (s .args .text .now) (s .args .t .now) (drop 1 (lines (s .args .text .now))) (some-lines (s .args .text .now) more) _ (b .begin-file .ensures .test) _ _ (ap beginTest (c .before .r .given .1)) (b .begin-file .ensures .kept))
+
+returns-4 : tie.Need-returns-4
+returns-4 c =
+    let d = c .before .before .before .before .before in
+    let b = d .before .before .before .before .before .before .before in
+    let e = b .before .before .before in
+    let s = e .before .before .before .before .before .before .before .before .before in
+    let from = d .before .before .before .from .given in
+    let split = b .begin-file .ensures .rest _ (from .1) in
+    let ls = lines (drop (from .0 .0) (s .args .text .now)) in
+    rw (e .enum-told .given .1) (rows-refused Timetbls (s .args .days) (λ k. BlockKeys k (s .args .companies .now) (s .args .modes .now) (s .args .stations .now) (s .args .footnotes .now)) (s .args .header .now) (s .args .text .now) (s .args .t .now) ls (split .all) _ (b .begin-file .ensures .test) (ap beginTest (from .1)) _ _ _ _ _ (d .read-blocks .ensures .done (s .args .days) _ (split .begun)) (b .begin-file .ensures .kept) _ _ (c .before .r2 .given .1))
+
+returns-5 : tie.Need-returns-5
+returns-5 c =
+    let d = c .before .before .before .before .before .before .before .before .before in
+    let b = d .before .before .before .before .before .before .before in
+    let e = b .before .before .before in
+    let s = e .before .before .before .before .before .before .before .before .before in
+    let from = d .before .before .before .from .given in
+    let split = b .begin-file .ensures .rest _ (from .1) in
+    let ls = lines (drop (from .0 .0) (s .args .text .now)) in
+    rw (e .enum-told .given .1) (rows-accepted Timetbls (s .args .days) (λ k. BlockKeys k (s .args .companies .now) (s .args .modes .now) (s .args .stations .now) (s .args .footnotes .now)) (s .args .header .now) (s .args .text .now) (s .args .t .now) ls (split .all) _ (b .begin-file .ensures .test) (ap beginTest (from .1)) _ _ _ _ _ (d .read-blocks .ensures .done (s .args .days) _ (split .begun)) (b .begin-file .ensures .kept) _ _ (c .before .before .before .before .before .rises .given .1) (c .before .before .set-rises .ensures) refl refl)
+
+pub read-timetbls-spec : {M : Type 1} → statement M
+read-timetbls-spec =
+    tie.close
+    (tie.spec
+    (λ c. search needs)
+    (λ c. search needs)
+    returns
+    begin-file-requires
+    (λ c. search needs)
+    (λ c. search needs)
+    read-blocks-requires
+    (λ c. search needs)
+    (λ c. search needs)
+    set-rises-requires
+    returns-2
+    (λ c. returns-3 c .kept)
+    returns-3
+    (λ c. returns-4 c .kept)
+    returns-4
+    (λ c. returns-5 c .kept)
+    returns-5)
