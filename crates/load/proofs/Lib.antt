@@ -1,0 +1,5 @@
+pub mod SizeLaws
+pub mod CountLaws
+pub mod RowLaws
+pub mod ContextLaws
+pub mod LoadLaw
