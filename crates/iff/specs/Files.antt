@@ -50,6 +50,23 @@ perFile f =
       xchanges = f Xchanges;
     }
 
+-- eleven values, in the files' order
+abbrev pub eleven : {A : Type 0} → A → A → A → A → A → A → A → A → A → A → A → PerFile A
+eleven delivery company country trnsmode timezone stations footnote timetbls changes xfootnote xchanges =
+    record {
+      delivery = delivery;
+      company = company;
+      country = country;
+      trnsmode = trnsmode;
+      timezone = timezone;
+      stations = stations;
+      footnote = footnote;
+      timetbls = timetbls;
+      changes = changes;
+      xfootnote = xfootnote;
+      xchanges = xchanges;
+    }
+
 -- Read in this order.
 abbrev pub inOrder : List File
 inOrder = Delivery ∷ Company ∷ Country ∷ Trnsmode ∷ Timezone ∷ Stations ∷ Footnote ∷ Timetbls ∷ Changes ∷ Xfootnote ∷ Xchanges ∷ []

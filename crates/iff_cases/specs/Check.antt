@@ -4,7 +4,8 @@ use Prim.Native.String.{String}
 use mathlib.Core.List.{List, [], _∷_}
 use lib.ListN.{replicate}
 use Rattle.iff.specs.Files.{PerFile}
-use Rattle.iff_cases.specs.Text.{bytes, textOf, linesOf}
+use Rattle.iff.specs.Bytes.{bytes}
+use Rattle.iff_cases.specs.Text.{textOf, linesOf}
 
 -- 01012015 to 10032017
 abbrev pub eightHundred : String

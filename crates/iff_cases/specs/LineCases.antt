@@ -6,7 +6,7 @@ use mathlib.Core.List.{List, [], _∷_}
 use mathlib.Core.Bool.{Bool, true, false}
 use Rattle.iff.specs.Lines.{Line, lines, eolAt}
 use Rattle.iff.specs.declared.Eol.the-variants.{Ended, Unended}
-use Rattle.iff_cases.specs.Text.{bytes}
+use Rattle.iff.specs.Bytes.{bytes}
 use Rattle.iff_cases.specs.Claims.{Claim, claim, Hold}
 use Rattle.iff_cases.specs.Opened.{opened}
 

@@ -1,6 +1,6 @@
 -- Everything that a case computes through, opened at once: `unfolding opened` opens all that the line below names.
 use Prim.Native.Nat.{ℕ}
-use Rattle.iff.specs.Bytes.{allowed, digit, zeroOrOne}
+use Rattle.iff.specs.Bytes.{allowed, digit, zeroOrOne, bytes}
 use Rattle.iff.specs.Lists.{front, groups, flat, any, all, kept, position, total, allOf, all2}
 use Rattle.iff.specs.Refusals.{firstTest, firstFault, scan, after}
 use Rattle.iff.specs.Lines.{before, lines, text, width}
@@ -23,7 +23,7 @@ use Rattle.iff_desk.specs.Stops.{timesBy, stopTimeIn, stopTime}
 use Rattle.iff_desk.specs.Changing.{pairAt, applies, rank, better, best, bestAt, settled, byTime, core, firstStep, coreChange, precheck, change}
 use Rattle.iff_desk.specs.Parts.{seek, seekAfter, isStation, name, nameTest, isHead, isOneBlock, linesNow, linesNowTest}
 use Rattle.iff_desk.specs.Amend.{amendVerdict, amendAnswer, amendTimetbls, edited}
-use Rattle.iff_cases.specs.Text.{bytes, textOf, linesOf}
+use Rattle.iff_cases.specs.Text.{textOf, linesOf}
 
 unfoldable pub opened : ℕ
 unfolding allowed digit zeroOrOne front groups flat any all kept position total allOf all2 firstTest firstFault scan after before lines text width recordFields blockRecord recordOf fieldsOf pictureFrom column figure value wildcard fieldRight readable companyOrAny bits vectorWords fieldWords words codeBytes codeRight vectorRight wordRight wordsRight leapYear daysBefore yearDays daysIn yearsBefore dayIs dayOf period span inPeriod dayIn isTime minutesOf isTurn interval padded joined fill putRow rowsUpTo rising firstRow lineTest mayFollow goes rowOf blockRow blockRowsFrom blocksRows firstRowOf rowsOfLines contextOf firstMeaning blockMeaning meaning freshKey freshTexts freshInGroup metInBlock met covered inRange legs firstLineTest deliveryVerdict plainTest plainVerdict groupTest groupVerdict groupsVerdict blockTest blockMoves blockVerdict timetblsVerdict fileVerdict contentsVerdict loadVerdict loadAnswer filled loadTable passes shaped soundFirst soundPlainRow soundGroupRow soundGroup soundGroups soundBlockRow standAfterRows soundBlock soundTimetbls soundRows soundTable sound groupOf stopAt recordOn stationRow marked periodOn runsOn asked runningIn runningDay timesBy stopTimeIn stopTime pairAt applies rank better best bestAt settled byTime core firstStep coreChange precheck change seek seekAfter isStation name nameTest isHead isOneBlock linesNow linesNowTest amendVerdict amendAnswer amendTimetbls edited bytes textOf linesOf

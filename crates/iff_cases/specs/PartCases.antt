@@ -4,7 +4,8 @@ use Prim.Native.Nat.{ℕ}
 use Prim.Native.String.{String}
 use mathlib.Core.Path.{refl}
 use mathlib.Core.List.{List, [], _∷_, _++_}
-use Rattle.iff_cases.specs.Text.{bytes, textOf, linesOf}
+use Rattle.iff.specs.Bytes.{bytes}
+use Rattle.iff_cases.specs.Text.{textOf, linesOf}
 use Rattle.iff_cases.specs.Claims.{Claim, claim, Hold}
 use Rattle.iff_cases.specs.Opened.{opened}
 use Rattle.iff_cases.specs.Delivery.{small, files, short, header}

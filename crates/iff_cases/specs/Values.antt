@@ -12,7 +12,8 @@ use Prim.Native.String.{String}
 use lib.ListN.{replicate}
 use Rattle.iff.specs.Files.{PerFile, perFile}
 use Rattle.iff_rules.specs.Load.{loadAnswer}
-use Rattle.iff_cases.specs.Text.{bytes, textOf, linesOf}
+use Rattle.iff.specs.Bytes.{bytes}
+use Rattle.iff_cases.specs.Text.{textOf, linesOf}
 
 -- n modes with two digits as their codes and texts, from number k on
 abbrev twoDigits : ℕ → List ℕ

@@ -1,5 +1,3 @@
-pub mod SizeLaws
-pub mod CountLaws
 pub mod RowLaws
 pub mod ContextLaws
 pub mod LoadLaw

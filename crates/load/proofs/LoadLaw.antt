@@ -8,7 +8,7 @@ use lib.Dec.{leb}
 use lib.ListN.{length, getD, replicate, length-replicate}
 use Rattle.iff.specs.Lists.{has}
 use Rattle.iff.specs.Refusals.{orElse, firstFault, fine, answer}
-use Rattle.iff.specs.Files.{PerFile, of}
+use Rattle.iff.specs.Files.{PerFile, of, eleven, limit}
 use Rattle.iff.specs.Lines.{Line, lines}
 use Rattle.iff.specs.Days.{span}
 use Rattle.iff.specs.Values.{words, fieldWords}
@@ -25,9 +25,12 @@ use Rattle.iff_rules.specs.Load.{faultUnless, roomVerdict, overFiles, deliveryV
 use Rattle.keys.specs.Lookup.{keysIn}
 use Rattle.keys.specs.Agree.{BlockKeys, StationKeys, GroupKeys}
 use Rattle.reading.specs.Reading.{Ready, FileRead, DeliveryRead, headLine}
-use Rattle.load.specs.Loading.{eleven, Loaded, sizesVerdict, lengthsVerdict, absencesVerdict, lengthsOf, Cleared, settled, Settled, companyNamed}
-use Rattle.load.proofs.SizeLaws.{step, last, or-nothing}
-use Rattle.load.proofs.RowLaws.{or-fine, first-fine, Held, held-company, held-country, held-trnsmode, held-stations, held-footnote, held-xfootnote, held-timezone, held-timetbls, keys-held}
+use Rattle.iff_laws.specs.Outcomes.{Loaded}
+use Rattle.iff_laws.specs.ScanLaws.{or-fine, cons-fine, or-nothing}
+use Rattle.sizes.specs.Sizes.{sizesVerdict, lengthsWithin, absencesVerdict, lengthsOf}
+use Rattle.sizes.proofs.SizeLaws.{step, last}
+use Rattle.steps.specs.Steps.{Cleared, settled, Settled, companyNamed}
+use Rattle.load.proofs.RowLaws.{Held, held-company, held-country, held-trnsmode, held-stations, held-footnote, held-xfootnote, held-timezone, held-timetbls, keys-held}
 use Rattle.load.proofs.ContextLaws.{advance, back, plain-back, group-back, blocks-back, company-read, country-read, trnsmode-read, stations-read, timezone-read, footnote-read, xfootnote-read, changes-read, xchanges-read, timetbls-read}
 
 -- SIZES: after them each file has room in its table
@@ -39,17 +42,17 @@ each-fine : (v : File → Verdict) → overFiles v ≡ Fine → (f : File) → v
 each-fine v e f = go f
   where
     go : (g : File) → v g ≡ Fine
-    go Delivery = first-fine _ _ e .0
-    go Company = first-fine _ _ (first-fine _ _ e .1) .0
-    go Country = first-fine _ _ (first-fine _ _ (first-fine _ _ e .1) .1) .0
-    go Trnsmode = first-fine _ _ (first-fine _ _ (first-fine _ _ (first-fine _ _ e .1) .1) .1) .0
-    go Timezone = first-fine _ _ (first-fine _ _ (first-fine _ _ (first-fine _ _ (first-fine _ _ e .1) .1) .1) .1) .0
-    go Stations = first-fine _ _ (first-fine _ _ (first-fine _ _ (first-fine _ _ (first-fine _ _ (first-fine _ _ e .1) .1) .1) .1) .1) .0
-    go Footnote = first-fine _ _ (first-fine _ _ (first-fine _ _ (first-fine _ _ (first-fine _ _ (first-fine _ _ (first-fine _ _ e .1) .1) .1) .1) .1) .1) .0
-    go Timetbls = first-fine _ _ (first-fine _ _ (first-fine _ _ (first-fine _ _ (first-fine _ _ (first-fine _ _ (first-fine _ _ (first-fine _ _ e .1) .1) .1) .1) .1) .1) .1) .0
-    go Changes = first-fine _ _ (first-fine _ _ (first-fine _ _ (first-fine _ _ (first-fine _ _ (first-fine _ _ (first-fine _ _ (first-fine _ _ (first-fine _ _ e .1) .1) .1) .1) .1) .1) .1) .1) .0
-    go Xfootnote = first-fine _ _ (first-fine _ _ (first-fine _ _ (first-fine _ _ (first-fine _ _ (first-fine _ _ (first-fine _ _ (first-fine _ _ (first-fine _ _ (first-fine _ _ e .1) .1) .1) .1) .1) .1) .1) .1) .1) .0
-    go Xchanges = first-fine _ _ (first-fine _ _ (first-fine _ _ (first-fine _ _ (first-fine _ _ (first-fine _ _ (first-fine _ _ (first-fine _ _ (first-fine _ _ (first-fine _ _ (first-fine _ _ e .1) .1) .1) .1) .1) .1) .1) .1) .1) .1) .0
+    go Delivery = cons-fine _ _ e .0
+    go Company = cons-fine _ _ (cons-fine _ _ e .1) .0
+    go Country = cons-fine _ _ (cons-fine _ _ (cons-fine _ _ e .1) .1) .0
+    go Trnsmode = cons-fine _ _ (cons-fine _ _ (cons-fine _ _ (cons-fine _ _ e .1) .1) .1) .0
+    go Timezone = cons-fine _ _ (cons-fine _ _ (cons-fine _ _ (cons-fine _ _ (cons-fine _ _ e .1) .1) .1) .1) .0
+    go Stations = cons-fine _ _ (cons-fine _ _ (cons-fine _ _ (cons-fine _ _ (cons-fine _ _ (cons-fine _ _ e .1) .1) .1) .1) .1) .0
+    go Footnote = cons-fine _ _ (cons-fine _ _ (cons-fine _ _ (cons-fine _ _ (cons-fine _ _ (cons-fine _ _ (cons-fine _ _ e .1) .1) .1) .1) .1) .1) .0
+    go Timetbls = cons-fine _ _ (cons-fine _ _ (cons-fine _ _ (cons-fine _ _ (cons-fine _ _ (cons-fine _ _ (cons-fine _ _ (cons-fine _ _ e .1) .1) .1) .1) .1) .1) .1) .0
+    go Changes = cons-fine _ _ (cons-fine _ _ (cons-fine _ _ (cons-fine _ _ (cons-fine _ _ (cons-fine _ _ (cons-fine _ _ (cons-fine _ _ (cons-fine _ _ e .1) .1) .1) .1) .1) .1) .1) .1) .0
+    go Xfootnote = cons-fine _ _ (cons-fine _ _ (cons-fine _ _ (cons-fine _ _ (cons-fine _ _ (cons-fine _ _ (cons-fine _ _ (cons-fine _ _ (cons-fine _ _ (cons-fine _ _ e .1) .1) .1) .1) .1) .1) .1) .1) .1) .0
+    go Xchanges = cons-fine _ _ (cons-fine _ _ (cons-fine _ _ (cons-fine _ _ (cons-fine _ _ (cons-fine _ _ (cons-fine _ _ (cons-fine _ _ (cons-fine _ _ (cons-fine _ _ (cons-fine _ _ e .1) .1) .1) .1) .1) .1) .1) .1) .1) .1) .0
 
 room-fits : (f : File) (n m : ℕ) → roomVerdict f n m ≡ Fine → n ≤ room f m
 room-fits f n m e = go (leb n (room f m)) refl e
@@ -61,7 +64,7 @@ room-fits f n m e = go (leb n (room f m)) refl e
 pub roomy : (F : PerFile (List ℕ)) (R : PerFile ℕ) (v : Verdict) → v ≡ sizesVerdict F R → fine v ≡ true → (f : File) → length (lines (of F f)) ≤ room f (of R f)
 unfolding sizesVerdict
 roomy F R v e g f =
-    room-fits f _ _ (each-fine (λ k. roomVerdict k (length (lines (of F k))) (of R k)) (or-fine (orElse (lengthsVerdict (lengthsOf F)) (absencesVerdict (lengthsOf F))) _ (sym e ∙ fine-is v g) .1) f)
+    room-fits f _ _ (each-fine (λ k. roomVerdict k (length (lines (of F k))) (of R k)) (or-fine (orElse (lengthsWithin limit (lengthsOf F)) (absencesVerdict (lengthsOf F))) _ (sym e ∙ fine-is v g) .1) f)
 
 -- a cleared table is ready for its file
 pub ready : (f : File) (text t z : List ℕ) → z ≡ replicate (length t) 0 → length (lines text) ≤ room f (length t) → Ready f text z
@@ -388,5 +391,5 @@ module _ (f1 f2 f3 f4 f5 f6 f7 f8 f9 f10 f11 : List ℕ) (t1 t2 t3 t4 t5 t6 t7 t
     left Xfootnote = rw (← verdict-is) (final Xfootnote v12 b10 a10 (length t10) (rowsOfLines D Xfootnote (lines f10)) (s .settles .s10) (λ g. table10 (g12 g)) (kept-is (s .xfootnote) (length t10) (s .cleared .c10)))
     left Xchanges = rw (← verdict-is) (final Xchanges v12 b11 a11 (length t11) (rowsOfLines D Xchanges (lines f11)) (s .settles .s11) (λ g. table11 g) (kept-is (s .xchanges) (length t11) (s .cleared .c11)))
 
-    pub loaded : Loaded F R T r
+    pub loaded : Loaded F R r T
     loaded = record { answers = answers-are; leaves = left }

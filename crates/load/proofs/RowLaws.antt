@@ -1,63 +1,38 @@
 -- The rows that the lines of an accepted file leave are in use, and no more than its lines. Assumes nothing.
 use Prim.Native.Nat.{ℕ, suc, _+_, _/_, _≤_}
 use mathlib.Core.Path.{_≡_, refl, ap}
-use mathlib.Core.List.{List, [], _∷_, _++_, map}
+use mathlib.Core.List.{List, [], _∷_, map}
 use mathlib.Core.Bool.{Bool, true, false, cond, false≢true}
 use native.Mathlib.Nat.{le-div-iff-mul-le}
 use native.Mathlib.Omega.{arith}
-use borrow.Author.Tests.{eqb-true}
 use lib.Dec.{eqb}
 use lib.ListN.{length, length-append}
 use Rattle.iff.specs.Bytes.{hash, at}
 use Rattle.iff.specs.Lists.{Group, front, groups, members, same}
-use Rattle.iff.specs.Refusals.{orElse, firstFault, firstTest, unless, verdictAt, fine, passing, scan}
+use Rattle.iff.specs.Refusals.{firstTest, verdictAt, passing, scan}
 use Rattle.iff.specs.Lines.{Line, letter, isHash}
-use Rattle.iff.specs.Columns.{recordFields, blockRecord, recordOf, fieldsOf}
 use Rattle.iff.specs.Values.{words, fieldWords}
-use Rattle.iff.specs.Tables.{tag, letterless, rowWidth, padded, fill, keysOf}
+use Rattle.iff.specs.Tables.{letterless, rowWidth, padded, fill, keysOf}
 use Rattle.iff.specs.declared.File.{File}
 use Rattle.iff.specs.declared.File.the-variants.{Delivery, Company, Country, Trnsmode, Timezone, Stations, Footnote, Timetbls, Changes, Xfootnote, Xchanges}
-use Rattle.iff.specs.declared.Reason.the-variants.{Layout}
-use Rattle.iff.specs.declared.Place.{Place}
 use Rattle.iff.specs.declared.Place.the-variants.{At}
-use Rattle.iff.specs.declared.Test.{Test}
-use Rattle.iff.specs.declared.Test.the-variants.{Passes, Fails}
+use Rattle.iff.specs.declared.Test.the-variants.{Passes}
 use Rattle.iff.specs.declared.Verdict.{Verdict}
-use Rattle.iff.specs.declared.Verdict.the-variants.{Fine, Fault}
-use Rattle.iff_rules.specs.Order.{LineTests, lineTest, strayTests, known, tagOf, vectorTag}
-use Rattle.iff_rules.specs.Rows.{lineWords, counts, rowOf, blockRow, blockRowsFrom, blockRows, blocksRows, blocksOf, stopsIn, linesIn, firstRowOf, laterRows, rowsOfLines, Context}
+use Rattle.iff.specs.declared.Verdict.the-variants.{Fine}
+use Rattle.iff_rules.specs.Order.{lineTest, strayTests, known, tagOf, vectorTag}
+use Rattle.iff_rules.specs.Rows.{rowOf, blockRowsFrom, blockRows, blocksRows, blocksOf, stopsIn, linesIn, firstRowOf, laterRows, rowsOfLines, Context}
 use Rattle.iff_rules.specs.Load.{firstLineTest, groupTest, groupVerdict, groupsVerdict, blockTest, blockVerdict, timetblsVerdict, strayVerdict, fileVerdict, Between, blockStart}
+use Rattle.iff_laws.specs.ScanLaws.{or-fine, cons-fine, verdict-fine}
+use Rattle.iff_laws.specs.LineLaws.{line-passes}
 use Rattle.tables.proofs.Each.{Each, each-append}
 use Rattle.tables.proofs.Rows.{Used}
-use Rattle.records.proofs.RowLaws.{words-length, padded-length}
-use Rattle.records.proofs.FileLaws.{block-room, row-used, known-used}
+use Rattle.records.proofs.FileLaws.{row-used, known-used}
+use Rattle.legs.proofs.RowLaws.{tag-is}
+use Rattle.timetbls.proofs.RowLaws.{block-row-length, rows-count}
 use Rattle.keys.specs.Lookup.{keysIn}
 use Rattle.keys.proofs.Fills.{width-some, keys-in-fill}
 
--- VERDICTS
-pub or-fine : (v w : Verdict) → orElse v w ≡ Fine → (v ≡ Fine) × (w ≡ Fine)
-or-fine Fine w e = (refl, e)
-or-fine (Fault r p) w e = absurd (false≢true (ap fine e))
-
--- the first of several, and the others
-pub first-fine : (v : Verdict) (vs : List Verdict) → firstFault (v ∷ vs) ≡ Fine → (v ≡ Fine) × (firstFault vs ≡ Fine)
-unfolding firstFault
-first-fine v vs e = or-fine v (firstFault vs) e
-
-verdict-fine : (p : Place) (t : Test) → verdictAt p t ≡ Fine → t ≡ Passes
-verdict-fine p Passes e = refl
-verdict-fine p (Fails r) e = absurd (false≢true (ap fine e))
-
--- a line that passes has a letter that its file knows
-first-known : (b : Bool) (ts : List Test) → firstTest (unless b Layout ∷ ts) ≡ Passes → b ≡ true
-unfolding firstTest
-first-known true ts e = refl
-first-known false ts e = absurd (false≢true (ap passing e))
-
-known-of : (t : LineTests) → lineTest t ≡ Passes → t .known ≡ true
-unfolding lineTest
-known-of t e = first-known (t .known) _ e
-
+-- LINES THAT PASSED
 stray-fails : (b : Bool) → lineTest (strayTests b) ≡ Passes → ⊥
 unfolding lineTest firstTest
 stray-fails true e = false≢true (ap passing e)
@@ -101,13 +76,13 @@ module _ (c : Context) (f : File) where
   group-known : (seen : List ℕ) (i : ℕ) (g : Group Line) → groupVerdict c f seen i g ≡ Fine → Each (Known f) (members g)
   unfolding groupVerdict groupTest
   group-known seen i g e =
-      scan-each _ _ (Known f) (λ earlier k l q. known-of _ (verdict-fine (At f 0 k) (groupTest c f seen earlier l) q)) [] i (members g) (first-fine _ _ e .0)
+      scan-each _ _ (Known f) (λ earlier k l q. line-passes _ .0 (verdict-fine (At f 0 k) (groupTest c f seen earlier l) q) .is-known) [] i (members g) (cons-fine _ _ e .0)
 
   pub groups-known : (ls : List Line) → groupsVerdict c f ls ≡ Fine → Each (Known f) ls
   unfolding groupsVerdict
   groups-known ls e =
-      let p = first-fine (strayVerdict f (front isHash ls)) _ e in
-      let q = first-fine _ _ (p .1) in
+      let p = cons-fine (strayVerdict f (front isHash ls)) _ e in
+      let q = cons-fine _ _ (p .1) in
       each-line (Known f) ls (none-before f (front isHash ls) (no-stray f (front isHash ls) (p .0)))
       (scan-each _ _ (λ g. Each (Known f) (members g)) (λ (b : Between) o g r. group-known (b .seen) (b .line) g r) (record { seen = []; line = 2 }) 1 (blocksOf ls) (q .0))
 
@@ -115,13 +90,13 @@ module _ (c : Context) where
   block-known : (seen : List ℕ) (o : ℕ) (g : Group Line) → blockVerdict c seen o g ≡ Fine → Each (Known Timetbls) (members g)
   unfolding blockVerdict blockTest
   block-known seen o g e =
-      scan-each _ _ (Known Timetbls) (λ st j l q. known-of _ (verdict-fine (At Timetbls o j) (blockTest c seen st l) q)) blockStart 1 (members g) (first-fine _ _ e .0)
+      scan-each _ _ (Known Timetbls) (λ st j l q. line-passes _ .0 (verdict-fine (At Timetbls o j) (blockTest c seen st l) q) .is-known) blockStart 1 (members g) (cons-fine _ _ e .0)
 
   pub blocks-known : (ls : List Line) → timetblsVerdict c ls ≡ Fine → Each (λ g. Each (Known Timetbls) (members g)) (blocksOf ls)
   unfolding timetblsVerdict
   blocks-known ls e =
-      let p = first-fine (strayVerdict Timetbls (front isHash ls)) _ e in
-      let q = first-fine _ _ (p .1) in
+      let p = cons-fine (strayVerdict Timetbls (front isHash ls)) _ e in
+      let q = cons-fine _ _ (p .1) in
       scan-each _ _ (λ g. Each (Known Timetbls) (members g)) (λ seen o g r. block-known seen o g r) [] 1 (blocksOf ls) (q .0)
 
 -- ROWS
@@ -149,37 +124,11 @@ mapped-length : (days : ℕ) (f : File) (ls : List Line) → length (map (rowOf 
 mapped-length days f [] = refl
 mapped-length days f (l ∷ ls) = ap suc (mapped-length days f ls)
 
--- a block's: the `#` has one word of its own, so there is room for its counts
-words-few : (n x : ℕ) (body : List ℕ) → suc (length (words n body (fieldsOf 0 Timetbls x))) ≤ 5
-words-few n x body = omega (arith, words-length n body (fieldsOf 0 Timetbls x), block-room 0 x)
-
-head-few : (n k x : ℕ) (body : List ℕ) → x ≡ hash → length ((x ∷ words n body (fieldsOf 0 Timetbls x)) ++ counts n k true) ≤ 6
-unfolding fieldsOf recordOf blockRecord recordFields words fieldWords
-head-few n k x body e = rw e (omega arith)
-
-few : (n k x : ℕ) (body : List ℕ) (b : Bool) → eqb x hash ≡ b → length ((x ∷ words n body (fieldsOf 0 Timetbls x)) ++ counts n k b) ≤ 6
-few n k x body true e = head-few n k x body (eqb-true x hash e)
-few n k x body false e = omega (arith, length-append (x ∷ words n body (fieldsOf 0 Timetbls x)) [], words-few n x body)
-
-block-row-length : (n k j : ℕ) (l : Line) → length (blockRow n k j l) ≡ 7
-unfolding blockRow
-block-row-length n k j l =
-    let h = padded-length 6 (lineWords n 0 Timetbls l ++ counts n k (isHash l)) (few n k (letter l) (l .body) (isHash l) refl) in
-    omega (arith, h, length-append (padded 6 (lineWords n 0 Timetbls l ++ counts n k (isHash l))) (j ∷ []))
-
-block-row-tag : (n k j : ℕ) (l : Line) → tag (blockRow n k j l) ≡ letter l
-unfolding blockRow padded
-block-row-tag n k j l = refl
-
+-- a block's
 from-used : (n k j : ℕ) (ls : List Line) → Each (Known Timetbls) ls → Each (Used 7) (blockRowsFrom n k j ls)
 unfolding blockRowsFrom
 from-used n k j [] u = tt
-from-used n k j (l ∷ ls) u = ((block-row-length n k j l, rw block-row-tag (known-used Timetbls (letter l) (u .0))), from-used n k (suc j) ls (u .1))
-
-from-length : (n k j : ℕ) (ls : List Line) → length (blockRowsFrom n k j ls) ≡ length ls
-unfolding blockRowsFrom
-from-length n k j [] = refl
-from-length n k j (l ∷ ls) = ap suc (from-length n k (suc j) ls)
+from-used n k j (l ∷ ls) u = ((block-row-length n k j l, rw tag-is (known-used Timetbls (letter l) (u .0))), from-used n k (suc j) ls (u .1))
 
 blocks-used : (gs : List (Group Line)) → Each (λ g. Each (Known Timetbls) (members g)) gs → Each (Used 7) (blocksRows gs)
 unfolding blocksRows
@@ -196,7 +145,7 @@ blocks-length (l ∷ ls) = go (isHash l) (blocks-length ls)
         → length (blocksRows (cond b (record { top = l; rest = front isHash ls } ∷ groups isHash ls) (groups isHash ls))) + length (cond b [] (l ∷ front isHash ls)) ≡ suc (length ls)
     go true e =
         let g : Group Line = record { top = l; rest = front isHash ls } in
-        omega (arith, e, length-append (blockRows g) (blocksRows (blocksOf ls)), from-length (stopsIn g) (linesIn g) 1 (members g))
+        omega (arith, e, length-append (blockRows g) (blocksRows (blocksOf ls)), rows-count (stopsIn g) (linesIn g) 1 (members g))
     go false e = omega (arith, e)
 
 -- A FILE'S ROWS
@@ -257,14 +206,14 @@ module _ (days : ℕ) (c : Context) (header : List ℕ) (ls : List Line) where
   held-timezone e = held-lines Timezone days ls (λ ks. refl) (λ l ks p. tags-used Timezone ks (groups-known c Timezone ks (go l ks (rw p at e))))
     where
       go : (l : Line) (ks : List Line) → fileVerdict c header Timezone (l ∷ ks) ≡ Fine → groupsVerdict c Timezone ks ≡ Fine
-      go l ks q = first-fine (groupsVerdict c Timezone ks) [] (first-fine (verdictAt (At Timezone 0 1) (firstLineTest (same (l .body) header) l)) (groupsVerdict c Timezone ks ∷ []) q .1) .0
+      go l ks q = cons-fine (groupsVerdict c Timezone ks) [] (cons-fine (verdictAt (At Timezone 0 1) (firstLineTest (same (l .body) header) l)) (groupsVerdict c Timezone ks ∷ []) q .1) .0
 
 pub held-timetbls : (days : ℕ) (c : Context) (header : List ℕ) (ls : List Line) → fileVerdict c header Timetbls ls ≡ Fine → Held Timetbls days ls
 unfolding fileVerdict rowsOfLines
 held-timetbls days c header [] e = record { used = tt; few-rows = omega arith }
 held-timetbls days c header (l ∷ ls) e =
     record {
-      used = (first-used Timetbls _ l, blocks-used (blocksOf ls) (blocks-known c ls (first-fine _ _ (first-fine _ _ e .1) .0)));
+      used = (first-used Timetbls _ l, blocks-used (blocksOf ls) (blocks-known c ls (cons-fine _ _ (cons-fine _ _ e .1) .0)));
       few-rows = omega (arith, blocks-length ls);
     }
 

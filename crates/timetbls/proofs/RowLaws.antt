@@ -83,7 +83,7 @@ few : (n k x : ℕ) (body : List ℕ) (b : Bool) → eqb x hash ≡ b → length
 few n k x body true e = head-few n k x body (eqb-true x hash e)
 few n k x body false e = omega (arith, length-append (x ∷ words n body (fieldsOf 0 Timetbls x)) [], words-few n x body)
 
-block-row-length : (n k j : ℕ) (l : Line) → length (blockRow n k j l) ≡ 7
+pub block-row-length : (n k j : ℕ) (l : Line) → length (blockRow n k j l) ≡ 7
 unfolding blockRow
 block-row-length n k j l =
     let h = padded-length 6 (lineWords n 0 Timetbls l ++ counts n k (isHash l)) (few n k (letter l) (l .body) (isHash l) refl) in

@@ -4,13 +4,12 @@ use mathlib.Core.Path.{_≡_, refl, _∙_}
 use mathlib.Core.Bool.{true}
 use mathlib.Core.List.{List}
 use lib.ListN.{length}
-use Rattle.iff.specs.Files.{PerFile, of}
+use Rattle.iff.specs.Files.{PerFile, of, eleven}
 use Rattle.iff.specs.Refusals.{fine}
 use Rattle.iff.specs.Lines.{lines}
 use Rattle.iff.specs.Tables.{room}
 use Rattle.iff.specs.declared.File.{File}
 use Rattle.iff.specs.declared.File.the-variants.{Delivery, Company, Country, Trnsmode, Timezone, Stations, Footnote, Timetbls, Changes, Xfootnote, Xchanges}
-use Rattle.load.specs.Loading.{eleven}
 use Rattle.load.proofs.ContextLaws.{back, plain-back, group-back, blocks-back}
 use Rattle.load.proofs.LoadLaw.{roomy, ready, delivery-back, loaded}
 use borrow.Author.Needs.{needs}

@@ -1,0 +1,2 @@
+pub mod SettleLaws
+pub mod CountLaws

@@ -1,0 +1,19 @@
+-- `answer_of` meets its contract. Assumes nothing.
+use borrow.Author.Needs.{needs}
+use Rattle.steps.proofs.answer_of.Statement.{statement}
+use Rattle.steps.proofs.answer_of.Tie as tie
+
+returns : tie.Need-returns
+returns c = rw (c .before .enum-told .given .1, c .wide .ensures)
+
+returns-2 : tie.Need-returns-2
+returns-2 c = rw (c .before .v .given .1)
+
+pub answer-of-spec : {M : Type 1} → statement M
+answer-of-spec = tie.close
+    (tie.spec
+    (λ c. search needs)
+    (λ c κs. search needs)
+    (λ c. search needs)
+    returns
+    returns-2)
