@@ -1,0 +1,25 @@
+-- `main` is safe and ends: the cases that are left fall. Assumes nothing.
+use Prim.Native.Nat.{_-_, _≤_}
+use native.Mathlib.Omega.{arith}
+use borrow.Author.Needs.{needs}
+use Rattle.iffcases.proofs.main.Statement.{statement}
+use Rattle.iffcases.proofs.main.Tie as tie
+
+abbrev Inv-loop : tie.InvT-loop
+Inv-loop number₀ number = number ≤ 66
+
+abbrev μ-loop : tie.MeasureT-loop
+μ-loop number₀ number = 66 - number
+
+pub main-spec : {M : Type 1} → statement M
+main-spec =
+    tie.close
+    (tie.spec
+    Inv-loop
+    μ-loop
+    (λ c. search needs)
+    (λ c κs. search needs)
+    (λ c. search needs)
+    (λ c. search needs)
+    (λ c. search needs)
+    (λ c. search needs))

@@ -1,0 +1,16 @@
+-- `put_place` meets its contract. Assumes nothing.
+use borrow.Author.Needs.{needs}
+use Rattle.iff.specs.Bytes.{bytes}
+use Rattle.reports.proofs.TextLaws.{then}
+use Rattle.reports.proofs.put_place.Statement.{statement}
+use Rattle.reports.proofs.put_place.Tie as tie
+
+returns : tie.Need-returns
+unfolding bytes
+returns c = rw (c .before .before .before .before .enum-told .given .1) (then (c .before .before .before .before .before .before .before .before .put-byte .ensures) (c .before .before .put-byte2 .ensures))
+
+returns-2 : tie.Need-returns-2
+returns-2 c = rw (c .before .before .before .before .before .place .given .1) (then (c .before .before .before .before .before .before .before .before .before .put-byte .ensures) (c .before .before .put-name .ensures))
+
+pub put-place-spec : {M : Type 1} → statement M
+put-place-spec = tie.close (tie.spec (λ c κs. search needs) (λ c. search needs) (λ c κs. search needs) (λ c. search needs) (λ c κs. search needs) (λ c. search needs) returns (λ c. search needs) returns-2)

@@ -1,0 +1,246 @@
+// The check program's second line and the paths that it opens, put together as text in a lent buffer. What has no room is cut off.
+use iff::Answer;
+use iff::File;
+use iff::Place;
+use iff::Reason;
+ghost use mathlib.Core.Path.{_≡_};
+ghost use mathlib.Core.List.{[], _∷_};
+ghost use Prim.Native.Nat.{_≤_};
+ghost use lib.ListN.{length, take};
+ghost use Rattle.iff.specs.Bytes.{blank};
+ghost use Rattle.iff.specs.Refusals.{number, ordinal, lineAt};
+ghost use Rattle.reports.specs.Texts.{Appended, Front, lastDigit, digits, decimal};
+ghost use Rattle.reports.specs.Report.{fileName, placeName, field, answerLine, whereText, reportLine, pathOf, nameSize, nameBytes};
+ghost use Rattle.iff.specs.declared.Answer.the-variants.{Accepted, Refused};
+ghost use Rattle.reports.specs.declared.Report.the-variants.{Larger};
+
+const BLANK: u8 = 32;
+
+const LF: u8 = 10;
+
+// What the check program says of a delivery: the first file that is larger than it reads, or the load's answer.
+pub enum Report {
+    Larger(Place),
+    Answered(Answer),
+}
+
+// TEXT
+
+fn put_byte(out: &mut [u8], at: usize, b: u8) -> usize
+    ensures { λ r. ⌜ Appended (now (out .entry)) at (b ∷ []) (now (out .exit)) r ⌝ }
+{
+    if at < out.len() {
+        out[at] = b;
+        return at + 1;
+    }
+    at
+}
+
+fn put_bytes(out: &mut [u8], at: usize, text: &[u8]) -> usize
+    ensures { λ r. ⌜ Appended (now (out .entry)) at (now (text .entry)) (now (out .exit)) r ⌝ }
+{
+    let n = text.len();
+    let mut to = at;
+    let mut i = 0;
+    while i < n {
+        to = put_byte(out, to, text[i]);
+        i += 1;
+    }
+    to
+}
+
+// NUMBERS
+
+fn last_digit(n: u64) -> u8
+    ensures { λ r. ⌜ r ≡ lastDigit n ⌝ }
+{
+    48 + (n % 10) as u8
+}
+
+// The digits before the last are those of a tenth, at most `depth` of them.
+fn put_digits(out: &mut [u8], at: usize, n: u64, depth: usize) -> usize
+    ensures { λ r. ⌜ Appended (now (out .entry)) at (digits depth n) (now (out .exit)) r ⌝ }
+{
+    let last = last_digit(n);
+    if depth == 0 {
+        return put_byte(out, at, last);
+    }
+    if n < 10 {
+        return put_byte(out, at, last);
+    }
+    let to = put_digits(out, at, n / 10, depth - 1);
+    put_byte(out, to, last)
+}
+
+// A number behind a blank.
+fn put_field(out: &mut [u8], at: usize, n: u64) -> usize
+    ensures { λ r. ⌜ Appended (now (out .entry)) at (field n) (now (out .exit)) r ⌝ }
+{
+    let to = put_byte(out, at, BLANK);
+    put_digits(out, to, n, 19)
+}
+
+// NAMES
+
+fn name_bytes(file: File) -> [u8; 9]
+    ensures { λ r. ⌜ r ≡ nameBytes file ⌝ }
+{
+    match file {
+        File::Delivery => *b"DELIVERY ",
+        File::Company => *b"COMPANY  ",
+        File::Country => *b"COUNTRY  ",
+        File::Trnsmode => *b"TRNSMODE ",
+        File::Timezone => *b"TIMEZONE ",
+        File::Stations => *b"STATIONS ",
+        File::Footnote => *b"FOOTNOTE ",
+        File::Timetbls => *b"TIMETBLS ",
+        File::Changes => *b"CHANGES  ",
+        File::Xfootnote => *b"XFOOTNOTE",
+        File::Xchanges => *b"XCHANGES ",
+    }
+}
+
+fn name_size(file: File) -> usize
+    ensures { λ r. ⌜ r ≡ nameSize file ⌝ }
+{
+    match file {
+        File::Delivery => 8,
+        File::Company => 7,
+        File::Country => 7,
+        File::Trnsmode => 8,
+        File::Timezone => 8,
+        File::Stations => 8,
+        File::Footnote => 8,
+        File::Timetbls => 8,
+        File::Changes => 7,
+        File::Xfootnote => 9,
+        File::Xchanges => 8,
+    }
+}
+
+fn put_name(out: &mut [u8], at: usize, file: File) -> usize
+    ensures { λ r. ⌜ Appended (now (out .entry)) at (fileName file) (now (out .exit)) r ⌝ }
+{
+    let name = name_bytes(file);
+    let size = name_size(file);
+    put_bytes(out, at, &name[..size])
+}
+
+// A place's file behind a blank; 0 where there is none.
+fn put_place(out: &mut [u8], at: usize, place: Place) -> usize
+    ensures { λ r. ⌜ Appended (now (out .entry)) at (blank ∷ placeName place) (now (out .exit)) r ⌝ }
+{
+    let to = put_byte(out, at, BLANK);
+    match place {
+        Place::Nowhere => put_byte(out, to, 48),
+        Place::At(file, _, _) => put_name(out, to, file),
+    }
+}
+
+// The path of a file in a folder, at the front of a buffer.
+pub fn put_path(folder: &[u8], file: File, out: &mut [u8]) -> usize
+    ensures { λ r. ⌜ Front r (now (out .exit)) ⌝ }
+    ensures { λ r. ⌜ Appended (now (out .entry)) 0 (pathOf (now (folder .entry)) file) (now (out .exit)) r ⌝ }
+{
+    let to = put_bytes(out, 0, folder);
+    put_name(out, to, file)
+}
+
+// LINES
+
+fn number_of(reason: Reason) -> u64
+    ensures { λ r. ⌜ r ≡ number reason ⌝ }
+{
+    match reason {
+        Reason::TooLong => 1,
+        Reason::NoRoom => 2,
+        Reason::Absent => 3,
+        Reason::Layout => 4,
+        Reason::Value => 5,
+        Reason::FirstLine => 6,
+        Reason::Order => 7,
+        Reason::Duplicate => 8,
+        Reason::Reference => 9,
+        Reason::Legs => 10,
+        Reason::NotOneBlock => 11,
+        Reason::NoService => 12,
+        Reason::NoStop => 13,
+        Reason::NoDate => 14,
+        Reason::NoPeriod => 15,
+        Reason::NotSound => 16,
+        Reason::NoStation => 17,
+    }
+}
+
+fn ordinal_of(place: Place) -> u64
+    ensures { λ r. ⌜ r ≡ ordinal place ⌝ }
+{
+    match place {
+        Place::Nowhere => 0,
+        Place::At(_, o, _) => o,
+    }
+}
+
+fn line_of(place: Place) -> u64
+    ensures { λ r. ⌜ r ≡ lineAt place ⌝ }
+{
+    match place {
+        Place::Nowhere => 0,
+        Place::At(_, _, l) => l,
+    }
+}
+
+fn put_accepted(out: &mut [u8], days: u64, services: u64) -> usize
+    ensures { λ r. ⌜ Appended (now (out .entry)) 0 (answerLine (Accepted days services)) (now (out .exit)) r ⌝ }
+{
+    let a = put_bytes(out, 0, b"accepted");
+    let b = put_field(out, a, days);
+    let c = put_field(out, b, services);
+    put_byte(out, c, LF)
+}
+
+// What follows the number of a refusal.
+fn put_where(out: &mut [u8], at: usize, place: Place) -> usize
+    ensures { λ r. ⌜ Appended (now (out .entry)) at (whereText place) (now (out .exit)) r ⌝ }
+{
+    let a = put_place(out, at, place);
+    let b = put_field(out, a, ordinal_of(place));
+    let c = put_field(out, b, line_of(place));
+    put_byte(out, c, LF)
+}
+
+fn put_refused(out: &mut [u8], reason: Reason, place: Place) -> usize
+    ensures { λ r. ⌜ Appended (now (out .entry)) 0 (answerLine (Refused reason place)) (now (out .exit)) r ⌝ }
+{
+    let a = put_bytes(out, 0, b"refused");
+    let b = put_field(out, a, number_of(reason));
+    put_where(out, b, place)
+}
+
+fn put_larger(out: &mut [u8], place: Place) -> usize
+    ensures { λ r. ⌜ Appended (now (out .entry)) 0 (reportLine (Larger place)) (now (out .exit)) r ⌝ }
+{
+    let a = put_bytes(out, 0, b"larger");
+    let b = put_place(out, a, place);
+    put_byte(out, b, LF)
+}
+
+fn put_answer(answer: Answer, out: &mut [u8]) -> usize
+    ensures { λ r. ⌜ Appended (now (out .entry)) 0 (answerLine answer) (now (out .exit)) r ⌝ }
+{
+    match answer {
+        Answer::Accepted(days, services) => put_accepted(out, days, services),
+        Answer::Refused(reason, place) => put_refused(out, reason, place),
+    }
+}
+
+// The check program's second line, at the front of a buffer, and its length.
+pub fn put_report(report: Report, out: &mut [u8]) -> usize
+    ensures { λ r. ⌜ Front r (now (out .exit)) ⌝ }
+    ensures { λ r. ⌜ Appended (now (out .entry)) 0 (reportLine report) (now (out .exit)) r ⌝ }
+{
+    match report {
+        Report::Larger(place) => put_larger(out, place),
+        Report::Answered(answer) => put_answer(answer, out),
+    }
+}
