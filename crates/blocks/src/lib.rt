@@ -189,7 +189,16 @@ fn record_test(
         iff::Test::Passes => {
             let mut row: [u64; 7] = [0; 7];
             records::put_words(kind, letter as u64, 0, 0, line, &mut row);
-            row_test(&row, stops, fresh, counts, companies, modes, stations, footnotes)
+            row_test(
+                &row,
+                stops,
+                fresh,
+                counts,
+                companies,
+                modes,
+                stations,
+                footnotes,
+            )
         }
     }
 }
@@ -352,7 +361,17 @@ fn read_stops(
                 footnotes,
             );
         }
-        match line_at(block, at, st, fresh, counts, companies, modes, stations, footnotes) {
+        match line_at(
+            block,
+            at,
+            st,
+            fresh,
+            counts,
+            companies,
+            modes,
+            stations,
+            footnotes,
+        ) {
             Turned::Off(why) => {
                 return Driven::Held(why, number);
             }
@@ -383,7 +402,17 @@ fn read_platform(
     ensures { λ r. ⌜ r ≡ driveAt (keysFrom counts (now (companies .entry)) (now (modes .entry)) (now (stations .entry)) (now (footnotes .entry))) fresh (now (block .entry)) at st before ⌝ }
 {
     let number = before + 1;
-    match line_at(block, at, st, fresh, counts, companies, modes, stations, footnotes) {
+    match line_at(
+        block,
+        at,
+        st,
+        fresh,
+        counts,
+        companies,
+        modes,
+        stations,
+        footnotes,
+    ) {
         Turned::Off(why) => Driven::Held(why, number),
         Turned::On(next, to) => read_stops(
             block,
