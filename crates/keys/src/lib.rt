@@ -73,7 +73,7 @@ pub fn key_word(file: iff::File) -> usize
     }
 }
 
-// A file's table names this key.
+// A file's table names this key. Every row in use is gone through.
 pub fn names(file: iff::File, t: &[u64], key: u64) -> bool
     ensures { λ r. ⌜ r ≡ has key (keysIn file (now (t .entry))) ⌝ }
 {
@@ -151,8 +151,8 @@ fn head_row(file: iff::File, t: &[u64], i: usize) -> usize
     }
 }
 
-// A search by halves among the first rows. A row is tested before it is called found, so the answer true leans on no order of the keys.
-// Where they rise every key is found; where they do not, one may be missed.
+// A search by halves among the first rows, row 0 apart, which is the first line's. A row is tested before it is called found, so the answer true
+// leans on no order of the keys. Where they rise every key is found, and where they do not one may be missed: that is a matter of time alone.
 fn found_by_halves(file: iff::File, t: &[u64], used: usize, key: u64) -> bool
     ensures { λ r. ⌜ (r ≡ true → has key (keysAmong file used (now (t .entry))) ≡ true) ⌝ }
 {
@@ -224,6 +224,7 @@ pub struct GroupCounts {
     pub xfootnotes: usize,
 }
 
+// Counts them. What the tables name is then named by these first rows.
 pub fn count_for_blocks(
     companies: &[u64],
     modes: &[u64],
@@ -240,6 +241,7 @@ pub fn count_for_blocks(
     }
 }
 
+// Counts those, likewise.
 pub fn count_for_groups(
     companies: &[u64],
     modes: &[u64],
