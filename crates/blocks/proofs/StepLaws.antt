@@ -26,7 +26,8 @@ use Rattle.iff_rules.specs.Meaning.{meaning}
 use Rattle.iff_rules.specs.References.{met, metInBlock}
 use Rattle.iff_rules.specs.Legs.{one}
 use Rattle.iff_rules.specs.Load.{blockMoves}
-use Rattle.keys.specs.Agree.{BlockKeys}
+use Rattle.keys.specs.declared.BlockCounts.{BlockCounts}
+use Rattle.keys.specs.Agree.{BlockKeysAmong}
 use Rattle.records.specs.Facts.{Legible}
 use Rattle.records.proofs.LineLaws.{layout-passes as passes-legible}
 use Rattle.records.proofs.FileLaws.{row-room}
@@ -35,9 +36,9 @@ use Rattle.blocks.specs.declared.Step.the-variants.{Go, No}
 use Rattle.blocks.proofs.TestLaws.{test-in-order}
 
 -- the lent tables' own context
-pub keys-agree : (co mo st fo : List ℕ) → BlockKeys (keysFrom co mo st fo) co mo st fo
+pub keys-agree : (n : BlockCounts) (co mo st fo : List ℕ) → BlockKeysAmong (keysFrom n co mo st fo) n co mo st fo
 unfolding keysFrom
-keys-agree co mo st fo = record { companies = refl; modes = refl; stations = refl; footnotes = refl }
+keys-agree n co mo st fo = record { companies = refl; modes = refl; stations = refl; footnotes = refl }
 
 -- A ROW
 module _ (c : Context) (fresh : Bool) (stops : ℕ) (r : Row) where

@@ -21,7 +21,8 @@ use Rattle.iff_rules.specs.Rows.{rowOf, blockRows, asBlock, Context}
 use Rattle.iff_rules.specs.Unique.{freshKey}
 use Rattle.iff_rules.specs.Legs.{legs}
 use Rattle.iff_rules.specs.Load.{blockTest, blockStart, blockNext, blockVerdict, serviceOf}
-use Rattle.keys.specs.Agree.{BlockKeys}
+use Rattle.keys.specs.declared.BlockCounts.{BlockCounts}
+use Rattle.keys.specs.Agree.{BlockKeysAmong}
 use Rattle.text.proofs.LineLaws.{lines-step}
 use Rattle.records.specs.Facts.{Legible}
 use Rattle.records.proofs.FileLaws.{block-room, row-tag}
@@ -41,9 +42,9 @@ pub members-lines : (t : List ℕ) → 0 < length t → members (asBlock t) ≡ 
 members-lines t h = rw (lines-step t h)
 
 -- the lent tables' own context agrees with every other
-same-keys : (c : Context) (co mo st fo : List ℕ) → BlockKeys c co mo st fo → SameKeys c (keysFrom co mo st fo)
+same-keys : (c : Context) (counts : BlockCounts) (co mo st fo : List ℕ) → BlockKeysAmong c counts co mo st fo → SameKeys c (keysFrom counts co mo st fo)
 unfolding keysFrom
-same-keys c co mo st fo k = record { companies = k .companies; modes = k .modes; stations = k .stations; footnotes = k .footnotes }
+same-keys c counts co mo st fo k = record { companies = k .companies; modes = k .modes; stations = k .stations; footnotes = k .footnotes }
 
 and-both : (a b : Bool) → a && b ≡ true → (a ≡ true) × (b ≡ true)
 and-both true b e = (refl, e)
@@ -78,28 +79,28 @@ unfolding freshKey
 fresh-service d seen g e = rw (row-any-days d, row-tag 0 Timetbls, e)
 
 -- AN EMPTY TEXT has one line, and that has no letter
-pub empty-checked : (fresh : Bool) (t co mo st fo : List ℕ) → length t ≡ 0 → BlockChecked t fresh co mo st fo (Broken Layout 1)
+pub empty-checked : (fresh : Bool) (counts : BlockCounts) (t co mo st fo : List ℕ) → length t ≡ 0 → BlockChecked t fresh counts co mo st fo (Broken Layout 1)
 unfolding blockVerdict firstFault scan blockTest lineTest firstTest any lines
-empty-checked fresh (b ∷ t) co mo st fo e = absurd (omega arith)
-empty-checked fresh [] co mo st fo e =
+empty-checked fresh counts (b ∷ t) co mo st fo e = absurd (omega arith)
+empty-checked fresh counts [] co mo st fo e =
     record { says = λ c k seen f o. refl; whole = λ k n p. absurd (let z : _≡_ {A = ℕ} 0 1 = cc in omega arith) }
 
-module _ (fresh : Bool) (t co mo st fo : List ℕ) (some : 0 < length t) where
+module _ (fresh : Bool) (counts : BlockCounts) (t co mo st fo : List ℕ) (some : 0 < length t) where
   -- the lines of the block, as they are driven
   abbrev driven : Driven
-  driven = driveAt (keysFrom co mo st fo) fresh t 0 blockStart 0
+  driven = driveAt (keysFrom counts co mo st fo) fresh t 0 blockStart 0
 
   abbrev Scanned : Context → List ℕ → ℕ → Verdict
   Scanned c seen o = scan (λ s j l. verdictAt (At Timetbls o j) (blockTest c seen s l)) blockNext blockStart 1 (members (asBlock t))
 
-  scanned : (c : Context) → BlockKeys c co mo st fo → (seen : List ℕ) → fresh ≡ freshKey Timetbls seen (rowOf (c .days) Timetbls (asBlock t .top)) → (o : ℕ)
+  scanned : (c : Context) → BlockKeysAmong c counts co mo st fo → (seen : List ℕ) → fresh ≡ freshKey Timetbls seen (rowOf (c .days) Timetbls (asBlock t .top)) → (o : ℕ)
       → Scanned c seen o ≡ drivenAt o driven
   scanned c k seen f o =
-      drive-says c (keysFrom co mo st fo) (same-keys c co mo st fo k) seen fresh o blockStart (asBlock t .top) (asBlock t .rest) f
-      ∙ ap (λ ls. drivenAt o (drive (keysFrom co mo st fo) fresh blockStart 0 ls)) (members-lines t some)
+      drive-says c (keysFrom counts co mo st fo) (same-keys c counts co mo st fo k) seen fresh o blockStart (asBlock t .top) (asBlock t .rest) f
+      ∙ ap (λ ls. drivenAt o (drive (keysFrom counts co mo st fo) fresh blockStart 0 ls)) (members-lines t some)
 
   -- a line is at fault
-  pub held-checked : (w : Reason) (j : ℕ) → driven ≡ Held w j → BlockChecked t fresh co mo st fo (Broken w j)
+  pub held-checked : (w : Reason) (j : ℕ) → driven ≡ Held w j → BlockChecked t fresh counts co mo st fo (Broken w j)
   unfolding blockVerdict firstFault
   held-checked w j e =
       record {
@@ -110,7 +111,7 @@ module _ (fresh : Bool) (t co mo st fo : List ℕ) (some : 0 < length t) where
   -- the lines are through
   pub lines-read : (end : InBlock) (m : ℕ) → driven ≡ Through end m → LinesRead t end m
   lines-read end m e =
-      let d = came-through (keysFrom co mo st fo) fresh (lines t) blockStart 0 end m e in
+      let d = came-through (keysFrom counts co mo st fo) fresh (lines t) blockStart 0 end m e in
       record {
         some = some;
         ended = d .ended;
@@ -120,7 +121,7 @@ module _ (fresh : Bool) (t co mo st fo : List ℕ) (some : 0 < length t) where
         each = d .read;
       }
 
-  pub last-checked : (end : InBlock) (m : ℕ) → driven ≡ Through end m → (r : Checked) → r ≡ lastTests t end m → BlockChecked t fresh co mo st fo r
+  pub last-checked : (end : InBlock) (m : ℕ) → driven ≡ Through end m → (r : Checked) → r ≡ lastTests t end m → BlockChecked t fresh counts co mo st fo r
   unfolding blockVerdict firstFault lastTests
   last-checked end m e r q = rw q (go (finished (end .stand)) refl (legs (blockRows (asBlock t))) refl)
     where
@@ -131,7 +132,7 @@ module _ (fresh : Bool) (t co mo st fo : List ℕ) (some : 0 < length t) where
       at-end = ap (after blockNext blockStart) (members-lines t some) ∙ read .ended
 
       go : (b : Bool) → finished (end .stand) ≡ b → (d : Bool) → legs (blockRows (asBlock t)) ≡ d
-          → BlockChecked t fresh co mo st fo (cond b (cond d (Whole m (end .stops)) (Broken Legs 1)) (Broken Order m))
+          → BlockChecked t fresh counts co mo st fo (cond b (cond d (Whole m (end .stops)) (Broken Legs 1)) (Broken Order m))
       go false p d s =
           record {
             says = λ c k seen f o. rw (scanned c k seen f o, e, at-end, p, ← read .counted);

@@ -6,7 +6,7 @@ use Rattle.iff.specs.Refusals.{orTest, unless}
 use Rattle.iff.specs.Lines.{Line, letter, isHash}
 use Rattle.iff.specs.Columns.{fieldsOf, laid}
 use Rattle.iff.specs.Values.{readable}
-use Rattle.iff.specs.Tables.{Row, isHashRow, rowsIn, keysOf}
+use Rattle.iff.specs.Tables.{Row, isHashRow}
 use Rattle.iff.specs.declared.File.the-variants.{Company, Trnsmode, Stations, Footnote, Timetbls}
 use Rattle.iff.specs.declared.Reason.the-variants.{Layout, Value, Duplicate, Reference}
 use Rattle.iff.specs.declared.Test.{Test}
@@ -17,20 +17,22 @@ use Rattle.iff_rules.specs.Rows.{rowOf, Context}
 use Rattle.iff_rules.specs.Meaning.{meaning}
 use Rattle.iff_rules.specs.References.{met}
 use Rattle.iff_rules.specs.Load.{blockNext}
+use Rattle.keys.specs.Lookup.{keysAmong}
+use Rattle.keys.specs.declared.BlockCounts.{BlockCounts}
 use Rattle.blocks.specs.declared.Step.{Step}
 use Rattle.blocks.specs.declared.Step.the-variants.{Go, No}
 
--- the keys of the four tables that a block's lines name, and nothing else
-unfoldable pub keysFrom : List ℕ → List ℕ → List ℕ → List ℕ → Context
-keysFrom co mo st fo =
+-- the keys of the four tables that a block's lines name, among so many of their first rows, and nothing else
+unfoldable pub keysFrom : BlockCounts → List ℕ → List ℕ → List ℕ → List ℕ → Context
+keysFrom n co mo st fo =
     record {
       days = 0;
-      companies = keysOf Company (rowsIn Company co);
+      companies = keysAmong Company (n .companies) co;
       countries = [];
-      modes = keysOf Trnsmode (rowsIn Trnsmode mo);
+      modes = keysAmong Trnsmode (n .modes) mo;
       zones = [];
-      stations = keysOf Stations (rowsIn Stations st);
-      footnotes = keysOf Footnote (rowsIn Footnote fo);
+      stations = keysAmong Stations (n .stations) st;
+      footnotes = keysAmong Footnote (n .footnotes) fo;
       services = [];
       xfootnotes = [];
     }

@@ -20,7 +20,8 @@ use Rattle.iff_rules.specs.Meaning.{mostStops}
 use Rattle.iff_rules.specs.Unique.{freshKey}
 use Rattle.iff_rules.specs.Legs.{legs}
 use Rattle.iff_rules.specs.Load.{blockStart, blockNext, blockVerdict}
-use Rattle.keys.specs.Agree.{BlockKeys}
+use Rattle.keys.specs.declared.BlockCounts.{BlockCounts}
+use Rattle.keys.specs.Agree.{BlockKeysAmong}
 use Rattle.blocks.specs.Lines.{legible}
 use Rattle.blocks.specs.declared.Checked.{Checked}
 use Rattle.blocks.specs.declared.Checked.the-variants.{Whole, Broken}
@@ -51,11 +52,11 @@ pub record WholeBlock (t : List ℕ) (k n : ℕ) : Type 0 where
   pub few : n ≤ mostStops
   pub each : all legible (lines t) ≡ true
 
--- THE CONTRACT. The answer is the paper's verdict on the block, whatever context agrees with the lent tables, whatever services came before it,
+-- THE CONTRACT. The answer is the paper's verdict on the block, whatever context agrees with the lent tables' first rows, whatever services came before it,
 -- if `fresh` says whether its own is new to them, and whichever its ordinal.
-pub record BlockChecked (t : List ℕ) (fresh : Bool) (co mo st fo : List ℕ) (r : Checked) : Type 0 where
+pub record BlockChecked (t : List ℕ) (fresh : Bool) (counts : BlockCounts) (co mo st fo : List ℕ) (r : Checked) : Type 0 where
   pub says :
-      (c : Context) → BlockKeys c co mo st fo → (seen : List ℕ) → fresh ≡ freshKey Timetbls seen (rowOf (c .days) Timetbls (asBlock t .top)) → (o : ℕ)
+      (c : Context) → BlockKeysAmong c counts co mo st fo → (seen : List ℕ) → fresh ≡ freshKey Timetbls seen (rowOf (c .days) Timetbls (asBlock t .top)) → (o : ℕ)
       → checkedAt o r ≡ blockVerdict c seen o (asBlock t)
   pub whole : (k n : ℕ) → r ≡ Whole k n → WholeBlock t k n
 

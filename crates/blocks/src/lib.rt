@@ -146,13 +146,14 @@ fn row_test(
     row: &[u64],
     stops: u64,
     fresh: bool,
+    counts: keys::BlockCounts,
     companies: &[u64],
     modes: &[u64],
     stations: &[u64],
     footnotes: &[u64],
 ) -> iff::Test
     requires { ⌜ length (now row) ≡ 7 ⌝ }
-    ensures { λ r. ⌜ r ≡ rowTest (keysFrom (now (companies .entry)) (now (modes .entry)) (now (stations .entry)) (now (footnotes .entry))) fresh stops (now (row .entry)) ⌝ }
+    ensures { λ r. ⌜ r ≡ rowTest (keysFrom counts (now (companies .entry)) (now (modes .entry)) (now (stations .entry)) (now (footnotes .entry))) fresh stops (now (row .entry)) ⌝ }
 {
     if !records::row_means(iff::File::Timetbls, stops as usize, row) {
         return iff::Test::Fails(iff::Reason::Value);
@@ -160,7 +161,7 @@ fn row_test(
     if !is_new(row[0], fresh) {
         return iff::Test::Fails(iff::Reason::Duplicate);
     }
-    if !keys::met_in_block(row, companies, modes, stations, footnotes) {
+    if !keys::met_in_block(row, counts, companies, modes, stations, footnotes) {
         return iff::Test::Fails(iff::Reason::Reference);
     }
     iff::Test::Passes
@@ -173,13 +174,14 @@ fn record_test(
     ended: bool,
     stops: u64,
     fresh: bool,
+    counts: keys::BlockCounts,
     companies: &[u64],
     modes: &[u64],
     stations: &[u64],
     footnotes: &[u64],
 ) -> iff::Test
     requires { ⌜ letter ≡ getD (now line) 0 0 ⌝ }
-    ensures { λ r. ⌜ r ≡ recordTest (keysFrom (now (companies .entry)) (now (modes .entry)) (now (stations .entry)) (now (footnotes .entry))) fresh stops (record { body = now (line .entry); ended = ended }) ⌝ }
+    ensures { λ r. ⌜ r ≡ recordTest (keysFrom counts (now (companies .entry)) (now (modes .entry)) (now (stations .entry)) (now (footnotes .entry))) fresh stops (record { body = now (line .entry); ended = ended }) ⌝ }
 {
     let kind = records::record_of(iff::File::Timetbls, letter);
     match records::line_layout(kind, 0, line, ended) {
@@ -187,7 +189,16 @@ fn record_test(
         iff::Test::Passes => {
             let mut row: [u64; 7] = [0; 7];
             records::put_words(kind, letter as u64, 0, 0, line, &mut row);
-            row_test(&row, stops, fresh, companies, modes, stations, footnotes)
+            row_test(
+                &row,
+                stops,
+                fresh,
+                counts,
+                companies,
+                modes,
+                stations,
+                footnotes,
+            )
         }
     }
 }
@@ -215,13 +226,14 @@ fn block_line(
     ended: bool,
     st: iff::InBlock,
     fresh: bool,
+    counts: keys::BlockCounts,
     companies: &[u64],
     modes: &[u64],
     stations: &[u64],
     footnotes: &[u64],
 ) -> Step
     requires { ⌜ st .stops ≤ mostStops ⌝ }
-    ensures { λ r. ⌜ r ≡ blockStep (keysFrom (now (companies .entry)) (now (modes .entry)) (now (stations .entry)) (now (footnotes .entry))) fresh st (record { body = now (line .entry); ended = ended }) ⌝ }
+    ensures { λ r. ⌜ r ≡ blockStep (keysFrom counts (now (companies .entry)) (now (modes .entry)) (now (stations .entry)) (now (footnotes .entry))) fresh st (record { body = now (line .entry); ended = ended }) ⌝ }
 {
     let letter = text::first_byte(line);
     if !records::is_known(iff::File::Timetbls, letter) {
@@ -237,6 +249,7 @@ fn block_line(
             ended,
             stops,
             fresh,
+            counts,
             companies,
             modes,
             stations,
@@ -265,13 +278,14 @@ fn line_at(
     at: usize,
     st: iff::InBlock,
     fresh: bool,
+    counts: keys::BlockCounts,
     companies: &[u64],
     modes: &[u64],
     stations: &[u64],
     footnotes: &[u64],
 ) -> Turned
     requires { ⌜ (at < length (now block)) × (st .stops ≤ mostStops) ⌝ }
-    ensures { λ r. ⌜ TurnsTo (keysFrom (now (companies .entry)) (now (modes .entry)) (now (stations .entry)) (now (footnotes .entry))) fresh (now (block .entry)) at st r ⌝ }
+    ensures { λ r. ⌜ TurnsTo (keysFrom counts (now (companies .entry)) (now (modes .entry)) (now (stations .entry)) (now (footnotes .entry))) fresh (now (block .entry)) at st r ⌝ }
 {
     match text::line_end(block, at) {
         iff::Eol::Ended(e) => {
@@ -282,6 +296,7 @@ fn line_at(
                     true,
                     st,
                     fresh,
+                    counts,
                     companies,
                     modes,
                     stations,
@@ -298,6 +313,7 @@ fn line_at(
                     false,
                     st,
                     fresh,
+                    counts,
                     companies,
                     modes,
                     stations,
@@ -317,13 +333,14 @@ fn read_stops(
     before: u64,
     start: iff::InBlock,
     fresh: bool,
+    counts: keys::BlockCounts,
     companies: &[u64],
     modes: &[u64],
     stations: &[u64],
     footnotes: &[u64],
 ) -> Driven
     requires { ⌜ Standing (now block) from before start ⌝ }
-    ensures { λ r. ⌜ r ≡ driveAt (keysFrom (now (companies .entry)) (now (modes .entry)) (now (stations .entry)) (now (footnotes .entry))) fresh (now (block .entry)) from start before ⌝ }
+    ensures { λ r. ⌜ r ≡ driveAt (keysFrom counts (now (companies .entry)) (now (modes .entry)) (now (stations .entry)) (now (footnotes .entry))) fresh (now (block .entry)) from start before ⌝ }
 {
     let mut at = from;
     let mut done = before;
@@ -337,13 +354,24 @@ fn read_stops(
                 done,
                 st,
                 fresh,
+                counts,
                 companies,
                 modes,
                 stations,
                 footnotes,
             );
         }
-        match line_at(block, at, st, fresh, companies, modes, stations, footnotes) {
+        match line_at(
+            block,
+            at,
+            st,
+            fresh,
+            counts,
+            companies,
+            modes,
+            stations,
+            footnotes,
+        ) {
             Turned::Off(why) => {
                 return Driven::Held(why, number);
             }
@@ -364,16 +392,27 @@ fn read_platform(
     before: u64,
     st: iff::InBlock,
     fresh: bool,
+    counts: keys::BlockCounts,
     companies: &[u64],
     modes: &[u64],
     stations: &[u64],
     footnotes: &[u64],
 ) -> Driven
     requires { ⌜ (at < length (now block)) × Standing (now block) at before st ⌝ }
-    ensures { λ r. ⌜ r ≡ driveAt (keysFrom (now (companies .entry)) (now (modes .entry)) (now (stations .entry)) (now (footnotes .entry))) fresh (now (block .entry)) at st before ⌝ }
+    ensures { λ r. ⌜ r ≡ driveAt (keysFrom counts (now (companies .entry)) (now (modes .entry)) (now (stations .entry)) (now (footnotes .entry))) fresh (now (block .entry)) at st before ⌝ }
 {
     let number = before + 1;
-    match line_at(block, at, st, fresh, companies, modes, stations, footnotes) {
+    match line_at(
+        block,
+        at,
+        st,
+        fresh,
+        counts,
+        companies,
+        modes,
+        stations,
+        footnotes,
+    ) {
         Turned::Off(why) => Driven::Held(why, number),
         Turned::On(next, to) => read_stops(
             block,
@@ -381,6 +420,7 @@ fn read_platform(
             number,
             to,
             fresh,
+            counts,
             companies,
             modes,
             stations,
@@ -411,12 +451,13 @@ fn last_tests(block: &[u8], st: iff::InBlock, lines: u64) -> Checked
 pub fn check_block(
     block: &[u8],
     fresh: bool,
+    counts: keys::BlockCounts,
     companies: &[u64],
     modes: &[u64],
     stations: &[u64],
     footnotes: &[u64],
 ) -> Checked
-    ensures { λ r. ⌜ BlockChecked (now (block .entry)) fresh (now (companies .entry)) (now (modes .entry)) (now (stations .entry)) (now (footnotes .entry)) r ⌝ }
+    ensures { λ r. ⌜ BlockChecked (now (block .entry)) fresh counts (now (companies .entry)) (now (modes .entry)) (now (stations .entry)) (now (footnotes .entry)) r ⌝ }
 {
     if block.len() == 0 {
         return Checked::Broken(iff::Reason::Layout, 1);
@@ -431,6 +472,7 @@ pub fn check_block(
         0,
         start,
         fresh,
+        counts,
         companies,
         modes,
         stations,

@@ -5,6 +5,7 @@ use mathlib.Core.List.{List, map}
 use mathlib.Core.Bool.{true, false≢true}
 use Rattle.iff.specs.Lines.{Line}
 use Rattle.iff.specs.Tables.{Row}
+use Rattle.iff.specs.declared.Verdict.{Verdict}
 use Rattle.iff.specs.declared.File.{File}
 use Rattle.iff.specs.declared.File.the-variants.{Delivery, Company, Country, Trnsmode, Timezone, Stations, Footnote, Timetbls, Changes, Xfootnote, Xchanges}
 use Rattle.iff_rules.specs.Rows.{rowOf, laterRows, Context}
@@ -44,3 +45,8 @@ pub as-later : (f : File) (days : ℕ) (Agree : Context → Type 0) (ls : List L
     → RowsDone f days Agree (λ c. groupsVerdict c f ls) first rows was is r → RowsDone f days Agree (λ c. laterVerdict c f ls) first rows was is r
 as-later f days Agree ls first rows was is r p d =
     record { verdict = λ c n a. d .verdict c n a ∙ later-verdict f c ls p; table = d .table; rises = d .rises; kept = d .kept }
+
+-- what holds for every context that agrees with the first rows holds for those that agree with the tables
+pub done-for : (f : File) (days : ℕ) (Agree Fewer : Context → Type 0) → ((c : Context) → Fewer c → Agree c) → (due : Context → Verdict) (first : Row) (rows : List Row) (was is : List ℕ) (r : RowsRead)
+    → RowsDone f days Agree due first rows was is r → RowsDone f days Fewer due first rows was is r
+done-for f days Agree Fewer g due first rows was is r d = record { verdict = λ c n a. d .verdict c n (g c a); table = d .table; rises = d .rises; kept = d .kept }

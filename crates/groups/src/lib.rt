@@ -6,6 +6,7 @@ use iff::Reason;
 use iff::Record;
 use iff::Test;
 use iff::Verdict;
+use keys::GroupCounts;
 use keys::KeyRun;
 use reading::Begin;
 use reading::RowsRead;
@@ -24,7 +25,7 @@ ghost use Rattle.iff_rules.specs.Unique.{freshKey, freshInGroup};
 ghost use Rattle.iff_rules.specs.Load.{groupsVerdict};
 ghost use Rattle.records.specs.Layouts.{lineOf};
 ghost use Rattle.keys.specs.Lookup.{keysIn};
-ghost use Rattle.keys.specs.Agree.{GroupKeys, isGroupFile};
+ghost use Rattle.keys.specs.Agree.{GroupKeys, GroupKeysAmong, isGroupFile};
 ghost use Rattle.iff.specs.Refusals.{fine};
 ghost use Rattle.reading.specs.Reading.{Ready, RowsDone, FileRead};
 ghost use Rattle.groups.specs.Tests.{placeTest, groupRowTest, whole};
@@ -188,6 +189,7 @@ fn row_test(
     run: KeyRun,
     row: &[u64],
     t: &[u64],
+    counts: GroupCounts,
     companies: &[u64],
     modes: &[u64],
     stations: &[u64],
@@ -195,7 +197,7 @@ fn row_test(
     xfootnotes: &[u64],
 ) -> Test
     requires { ⌜ Beside file rows size run (now t) × (length (now row) ≡ rowWidth file) ⌝ }
-    ensures { λ r. ⌜ ((c : Context) → GroupKeys c (now (companies .entry)) (now (modes .entry)) (now (stations .entry)) (now (services .entry)) (now (xfootnotes .entry)) → r ≡ groupRowTest c file (keysIn file (now (t .entry))) (openRows file (now (t .entry)) rows size) (now (row .entry))) ⌝ }
+    ensures { λ r. ⌜ ((c : Context) → GroupKeysAmong c counts (now (companies .entry)) (now (modes .entry)) (now (stations .entry)) (now (services .entry)) (now (xfootnotes .entry)) → r ≡ groupRowTest c file (keysIn file (now (t .entry))) (openRows file (now (t .entry)) rows size) (now (row .entry))) ⌝ }
 {
     if !records::row_means(file, size, row) {
         return Test::Fails(Reason::Value);
@@ -203,7 +205,16 @@ fn row_test(
     if !is_unique(file, rows, size, run, row, t) {
         return Test::Fails(Reason::Duplicate);
     }
-    if !keys::met_group(file, row, companies, modes, stations, services, xfootnotes) {
+    if !keys::met_group(
+        file,
+        row,
+        counts,
+        companies,
+        modes,
+        stations,
+        services,
+        xfootnotes,
+    ) {
         return Test::Fails(Reason::Reference);
     }
     Test::Passes
@@ -219,6 +230,7 @@ fn test_row(
     size: usize,
     run: KeyRun,
     t: &[u64],
+    counts: GroupCounts,
     companies: &[u64],
     modes: &[u64],
     stations: &[u64],
@@ -227,7 +239,7 @@ fn test_row(
     row: &mut [u64],
 ) -> Test
     requires { ⌜ Beside file rows size run (now t) × (length (now row) ≡ rowWidth file) ⌝ }
-    ensures { λ r. ⌜ RowTested file days rows size (λ c. GroupKeys c (now (companies .entry)) (now (modes .entry)) (now (stations .entry)) (now (services .entry)) (now (xfootnotes .entry))) (lineOf (now (line .entry)) ended) (now (t .entry)) (now (row .entry)) (now (row .exit)) r ⌝ }
+    ensures { λ r. ⌜ RowTested file days rows size (λ c. GroupKeysAmong c counts (now (companies .entry)) (now (modes .entry)) (now (stations .entry)) (now (services .entry)) (now (xfootnotes .entry))) (lineOf (now (line .entry)) ended) (now (t .entry)) (now (row .entry)) (now (row .exit)) r ⌝ }
 {
     match make_row(file, days, size, line, ended, row) {
         Test::Fails(r) => Test::Fails(r),
@@ -238,6 +250,7 @@ fn test_row(
             run,
             row,
             t,
+            counts,
             companies,
             modes,
             stations,
@@ -267,6 +280,7 @@ fn add_row(
     size: usize,
     run: KeyRun,
     t: &mut [u64],
+    counts: GroupCounts,
     companies: &[u64],
     modes: &[u64],
     stations: &[u64],
@@ -275,7 +289,7 @@ fn add_row(
     row: &mut [u64],
 ) -> Step
     requires { ⌜ Beside file rows size run (now t) × (length (now row) ≡ rowWidth file) ⌝ }
-    ensures { λ r. ⌜ Stepped file days rows size run (λ c. GroupKeys c (now (companies .entry)) (now (modes .entry)) (now (stations .entry)) (now (services .entry)) (now (xfootnotes .entry))) (addDue file rows size (lineOf (now (line .entry)) ended) (now (t .entry))) (lineOf (now (line .entry)) ended) (now (t .entry)) (now (t .exit)) r ⌝ }
+    ensures { λ r. ⌜ Stepped file days rows size run (λ c. GroupKeysAmong c counts (now (companies .entry)) (now (modes .entry)) (now (stations .entry)) (now (services .entry)) (now (xfootnotes .entry))) (addDue file rows size (lineOf (now (line .entry)) ended) (now (t .entry))) (lineOf (now (line .entry)) ended) (now (t .entry)) (now (t .exit)) r ⌝ }
 {
     match test_row(
         file,
@@ -286,6 +300,7 @@ fn add_row(
         size,
         run,
         t,
+        counts,
         companies,
         modes,
         stations,
@@ -315,6 +330,7 @@ fn add_line(
     size: usize,
     run: KeyRun,
     t: &mut [u64],
+    counts: GroupCounts,
     companies: &[u64],
     modes: &[u64],
     stations: &[u64],
@@ -322,7 +338,7 @@ fn add_line(
     xfootnotes: &[u64],
 ) -> Step
     requires { ⌜ Beside file rows size run (now t) ⌝ }
-    ensures { λ r. ⌜ Stepped file days rows size run (λ c. GroupKeys c (now (companies .entry)) (now (modes .entry)) (now (stations .entry)) (now (services .entry)) (now (xfootnotes .entry))) (addDue file rows size (lineOf (now (line .entry)) ended) (now (t .entry))) (lineOf (now (line .entry)) ended) (now (t .entry)) (now (t .exit)) r ⌝ }
+    ensures { λ r. ⌜ Stepped file days rows size run (λ c. GroupKeysAmong c counts (now (companies .entry)) (now (modes .entry)) (now (stations .entry)) (now (services .entry)) (now (xfootnotes .entry))) (addDue file rows size (lineOf (now (line .entry)) ended) (now (t .entry))) (lineOf (now (line .entry)) ended) (now (t .entry)) (now (t .exit)) r ⌝ }
 {
     let mut row: [u64; 14] = [0; 14];
     let w = tables::row_width(file);
@@ -335,6 +351,7 @@ fn add_line(
         size,
         run,
         t,
+        counts,
         companies,
         modes,
         stations,
@@ -353,6 +370,7 @@ fn group_line(
     rows: usize,
     group: Open,
     t: &mut [u64],
+    counts: GroupCounts,
     companies: &[u64],
     modes: &[u64],
     stations: &[u64],
@@ -360,7 +378,7 @@ fn group_line(
     xfootnotes: &[u64],
 ) -> Step
     requires { ⌜ Beside file rows (group .size) (group .run) (now t) ⌝ }
-    ensures { λ r. ⌜ Stepped file days rows (cond (isHash (lineOf (now (line .entry)) ended)) 0 (group .size)) (group .run) (λ c. GroupKeys c (now (companies .entry)) (now (modes .entry)) (now (stations .entry)) (now (services .entry)) (now (xfootnotes .entry))) (lineDue file rows (group .size) (lineOf (now (line .entry)) ended) (now (t .entry))) (lineOf (now (line .entry)) ended) (now (t .entry)) (now (t .exit)) r ⌝ }
+    ensures { λ r. ⌜ Stepped file days rows (cond (isHash (lineOf (now (line .entry)) ended)) 0 (group .size)) (group .run) (λ c. GroupKeysAmong c counts (now (companies .entry)) (now (modes .entry)) (now (stations .entry)) (now (services .entry)) (now (xfootnotes .entry))) (lineDue file rows (group .size) (lineOf (now (line .entry)) ended) (now (t .entry))) (lineOf (now (line .entry)) ended) (now (t .entry)) (now (t .exit)) r ⌝ }
 {
     let size = group.size;
     let run = group.run;
@@ -377,6 +395,7 @@ fn group_line(
             0,
             run,
             t,
+            counts,
             companies,
             modes,
             stations,
@@ -393,6 +412,7 @@ fn group_line(
         size,
         run,
         t,
+        counts,
         companies,
         modes,
         stations,
@@ -402,12 +422,13 @@ fn group_line(
 }
 
 // The lines from `from` on, the first of which is line 2 of the file. The table holds the first line's row, and theirs come behind it.
-pub fn read_groups(
+fn add_groups(
     file: File,
     days: usize,
     text: &[u8],
     from: usize,
     t: &mut [u64],
+    counts: GroupCounts,
     companies: &[u64],
     modes: &[u64],
     stations: &[u64],
@@ -415,7 +436,7 @@ pub fn read_groups(
     xfootnotes: &[u64],
 ) -> RowsRead
     requires { ⌜ Groups file from (now text) (now t) ⌝ }
-    ensures { λ r. ⌜ RowsDone file days (λ c. GroupKeys c (now (companies .entry)) (now (modes .entry)) (now (stations .entry)) (now (services .entry)) (now (xfootnotes .entry))) (λ c. groupsVerdict c file (lines (drop from (now (text .entry))))) (take (rowWidth file) (now (t .entry))) (map (rowOf days file) (lines (drop from (now (text .entry))))) (now (t .entry)) (now (t .exit)) r ⌝ }
+    ensures { λ r. ⌜ RowsDone file days (λ c. GroupKeysAmong c counts (now (companies .entry)) (now (modes .entry)) (now (stations .entry)) (now (services .entry)) (now (xfootnotes .entry))) (λ c. groupsVerdict c file (lines (drop from (now (text .entry))))) (take (rowWidth file) (now (t .entry))) (map (rowOf days file) (lines (drop from (now (text .entry))))) (now (t .entry)) (now (t .exit)) r ⌝ }
 {
     let mut at = from;
     let mut read: usize = 0;
@@ -437,6 +458,7 @@ pub fn read_groups(
             rows,
             group,
             t,
+            counts,
             companies,
             modes,
             stations,
@@ -462,6 +484,38 @@ pub fn read_groups(
     }
     let run = group.run;
     RowsRead::AllRead(run.rises)
+}
+
+// The same, with the rows in use of the other tables counted before the first line, and not again.
+pub fn read_groups(
+    file: File,
+    days: usize,
+    text: &[u8],
+    from: usize,
+    t: &mut [u64],
+    companies: &[u64],
+    modes: &[u64],
+    stations: &[u64],
+    services: &[u64],
+    xfootnotes: &[u64],
+) -> RowsRead
+    requires { ⌜ Groups file from (now text) (now t) ⌝ }
+    ensures { λ r. ⌜ RowsDone file days (λ c. GroupKeys c (now (companies .entry)) (now (modes .entry)) (now (stations .entry)) (now (services .entry)) (now (xfootnotes .entry))) (λ c. groupsVerdict c file (lines (drop from (now (text .entry))))) (take (rowWidth file) (now (t .entry))) (map (rowOf days file) (lines (drop from (now (text .entry))))) (now (t .entry)) (now (t .exit)) r ⌝ }
+{
+    let counts = keys::count_for_groups(companies, modes, stations, services, xfootnotes);
+    add_groups(
+        file,
+        days,
+        text,
+        from,
+        t,
+        counts,
+        companies,
+        modes,
+        stations,
+        services,
+        xfootnotes,
+    )
 }
 
 // A whole file of groups, after a verdict on what came before it: a fault is handed on, and an absent file has none.

@@ -11,8 +11,9 @@ use Rattle.iff.specs.declared.File.{File}
 use Rattle.iff.specs.declared.File.the-variants.{Delivery, Company, Country, Trnsmode, Timezone, Stations, Footnote, Timetbls, Changes, Xfootnote, Xchanges}
 use Rattle.iff_rules.specs.Rows.{Context}
 use Rattle.iff_rules.specs.References.{anyCompany, anyMode, metException, met}
-use Rattle.keys.specs.Lookup.{keysIn}
-use Rattle.keys.specs.Agree.{ExceptionKeys, isPlainFile, isGroupFile, metSides}
+use Rattle.keys.specs.Lookup.{keysAmong}
+use Rattle.keys.specs.declared.GroupCounts.{GroupCounts}
+use Rattle.keys.specs.Agree.{ExceptionKeysAmong, isPlainFile, isGroupFile, metSides}
 
 -- the wildcards as numbers
 pub any-company : anyCompany ≡ 2760736
@@ -28,17 +29,17 @@ four : (a b c d e : Bool) → (a && b) && ((c && d) && e) ≡ a && (b && (c && (
 four a b c d e = rw (and-assoc a b, and-assoc c d)
 
 -- a company or a mode that is named, or the wildcard
-abbrev companyIn : List ℕ → ℕ → Bool
-companyIn co x = eqb x anyCompany || has x (keysIn Company co)
+abbrev companyIn : GroupCounts → List ℕ → ℕ → Bool
+companyIn n co x = eqb x anyCompany || has x (keysAmong Company (n .companies) co)
 
-abbrev modeIn : List ℕ → ℕ → Bool
-modeIn mo x = eqb x anyMode || has x (keysIn Trnsmode mo)
+abbrev modeIn : GroupCounts → List ℕ → ℕ → Bool
+modeIn n mo x = eqb x anyMode || has x (keysAmong Trnsmode (n .modes) mo)
 
-module _ (c : Context) (co mo st xf : List ℕ) (k : ExceptionKeys c co mo st xf) where
-  pub sides-met : (r : Row) → metSides co mo xf r ≡ metException c r
+module _ (c : Context) (n : GroupCounts) (co mo st xf : List ℕ) (k : ExceptionKeysAmong c n co mo st xf) where
+  pub sides-met : (r : Row) → metSides n co mo xf r ≡ metException c r
   sides-met r =
       rw (k .companies, k .modes, k .xfootnotes)
-      (four (companyIn co (word r 1)) (modeIn mo (word r 2)) (companyIn co (word r 3)) (modeIn mo (word r 4)) (has (word r 6) (keysIn Xfootnote xf)))
+      (four (companyIn n co (word r 1)) (modeIn n mo (word r 2)) (companyIn n co (word r 3)) (modeIn n mo (word r 4)) (has (word r 6) (keysAmong Xfootnote (n .xfootnotes) xf)))
 
 -- files whose rows name nothing in another file
 abbrev namesNothing : File → Bool

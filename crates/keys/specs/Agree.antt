@@ -10,7 +10,9 @@ use Rattle.iff.specs.Lists.{has}
 use Rattle.iff.specs.Tables.{Row, word}
 use Rattle.iff_rules.specs.Rows.{Context}
 use Rattle.iff_rules.specs.References.{anyCompany, anyMode}
-use Rattle.keys.specs.Lookup.{keysIn}
+use Rattle.keys.specs.Lookup.{keysIn, keysAmong}
+use Rattle.keys.specs.declared.BlockCounts.{BlockCounts}
+use Rattle.keys.specs.declared.GroupCounts.{GroupCounts}
 
 -- what a line of a TIMETBLS block names
 pub record BlockKeys (c : Context) (co mo st fo : List ℕ) : Type 0 where
@@ -24,18 +26,6 @@ pub record StationKeys (c : Context) (cy zo : List ℕ) : Type 0 where
   pub countries : c .countries ≡ keysIn Country cy
   pub zones : c .zones ≡ keysIn Timezone zo
 
--- what a row of CHANGES names
-pub record ChangeKeys (c : Context) (st se : List ℕ) : Type 0 where
-  pub stations : c .stations ≡ keysIn Stations st
-  pub services : c .services ≡ keysIn Timetbls se
-
--- what a row of XCHANGES names
-pub record ExceptionKeys (c : Context) (co mo st xf : List ℕ) : Type 0 where
-  pub companies : c .companies ≡ keysIn Company co
-  pub modes : c .modes ≡ keysIn Trnsmode mo
-  pub stations : c .stations ≡ keysIn Stations st
-  pub xfootnotes : c .xfootnotes ≡ keysIn Xfootnote xf
-
 -- what a row of any file of groups names
 pub record GroupKeys (c : Context) (co mo st se xf : List ℕ) : Type 0 where
   pub companies : c .companies ≡ keysIn Company co
@@ -43,6 +33,32 @@ pub record GroupKeys (c : Context) (co mo st se xf : List ℕ) : Type 0 where
   pub stations : c .stations ≡ keysIn Stations st
   pub services : c .services ≡ keysIn Timetbls se
   pub xfootnotes : c .xfootnotes ≡ keysIn Xfootnote xf
+
+-- THE SAME AMONG THE FIRST ROWS, so many of each table as were counted
+pub record BlockKeysAmong (c : Context) (n : BlockCounts) (co mo st fo : List ℕ) : Type 0 where
+  pub companies : c .companies ≡ keysAmong Company (n .companies) co
+  pub modes : c .modes ≡ keysAmong Trnsmode (n .modes) mo
+  pub stations : c .stations ≡ keysAmong Stations (n .stations) st
+  pub footnotes : c .footnotes ≡ keysAmong Footnote (n .footnotes) fo
+
+-- what a row of CHANGES names
+pub record ChangeKeysAmong (c : Context) (n : GroupCounts) (st se : List ℕ) : Type 0 where
+  pub stations : c .stations ≡ keysAmong Stations (n .stations) st
+  pub services : c .services ≡ keysAmong Timetbls (n .services) se
+
+-- what a row of XCHANGES names
+pub record ExceptionKeysAmong (c : Context) (n : GroupCounts) (co mo st xf : List ℕ) : Type 0 where
+  pub companies : c .companies ≡ keysAmong Company (n .companies) co
+  pub modes : c .modes ≡ keysAmong Trnsmode (n .modes) mo
+  pub stations : c .stations ≡ keysAmong Stations (n .stations) st
+  pub xfootnotes : c .xfootnotes ≡ keysAmong Xfootnote (n .xfootnotes) xf
+
+pub record GroupKeysAmong (c : Context) (n : GroupCounts) (co mo st se xf : List ℕ) : Type 0 where
+  pub companies : c .companies ≡ keysAmong Company (n .companies) co
+  pub modes : c .modes ≡ keysAmong Trnsmode (n .modes) mo
+  pub stations : c .stations ≡ keysAmong Stations (n .stations) st
+  pub services : c .services ≡ keysAmong Timetbls (n .services) se
+  pub xfootnotes : c .xfootnotes ≡ keysAmong Xfootnote (n .xfootnotes) xf
 
 -- files without record letters
 abbrev pub isPlainFile : File → Bool
@@ -73,8 +89,8 @@ isGroupFile Xfootnote = true
 isGroupFile Xchanges = true
 
 -- an exception's two sides and its footnote, looked up in tables
-abbrev pub metSide : List ℕ → List ℕ → ℕ → ℕ → Bool
-metSide co mo company mode = (eqb company anyCompany || has company (keysIn Company co)) && (eqb mode anyMode || has mode (keysIn Trnsmode mo))
+abbrev pub metSide : GroupCounts → List ℕ → List ℕ → ℕ → ℕ → Bool
+metSide n co mo company mode = (eqb company anyCompany || has company (keysAmong Company (n .companies) co)) && (eqb mode anyMode || has mode (keysAmong Trnsmode (n .modes) mo))
 
-abbrev pub metSides : List ℕ → List ℕ → List ℕ → Row → Bool
-metSides co mo xf r = metSide co mo (word r 1) (word r 2) && (metSide co mo (word r 3) (word r 4) && has (word r 6) (keysIn Xfootnote xf))
+abbrev pub metSides : GroupCounts → List ℕ → List ℕ → List ℕ → Row → Bool
+metSides n co mo xf r = metSide n co mo (word r 1) (word r 2) && (metSide n co mo (word r 3) (word r 4) && has (word r 6) (keysAmong Xfootnote (n .xfootnotes) xf))

@@ -2,18 +2,18 @@
 ghost use mathlib.Core.Path.{_≡_};
 ghost use mathlib.Core.List.{[], _∷_};
 ghost use mathlib.Core.Bool.{true, not, _&&_, _||_};
-ghost use Prim.Native.Nat.{_+_, _*_, _<_, _≤_};
+ghost use Prim.Native.Nat.{_+_, _*_, _/_, _<_, _≤_};
 ghost use lib.Dec.{eqb};
 ghost use lib.ListN.{length};
 ghost use Rattle.iff.specs.Lists.{has, any};
-ghost use Rattle.iff.specs.Tables.{rowAt, rowWidth, keyTag, keyWord};
+ghost use Rattle.iff.specs.Tables.{rowAt, rowWidth, rowsIn, keyTag, keyWord};
 ghost use Rattle.iff.specs.declared.File.the-variants.{Company, Trnsmode, Stations, Timetbls, Changes, Xchanges};
 ghost use Rattle.iff_rules.specs.Rows.{Context};
 ghost use Rattle.iff_rules.specs.Unique.{overlap, sameWords, clash};
 ghost use Rattle.iff_rules.specs.References.{anyCompany, anyMode, metInBlock, met};
-ghost use Rattle.keys.specs.Lookup.{keysIn, strideOf, RisingKeys, KeysAt, CountOf};
+ghost use Rattle.keys.specs.Lookup.{keysIn, atMost, keysAmong};
 ghost use Rattle.keys.specs.Runs.{noKeys, stillRises, stepRun, runOf};
-ghost use Rattle.keys.specs.Agree.{BlockKeys, StationKeys, ChangeKeys, ExceptionKeys, GroupKeys, isPlainFile, isGroupFile, metSide, metSides};
+ghost use Rattle.keys.specs.Agree.{BlockKeys, BlockKeysAmong, StationKeys, ChangeKeysAmong, ExceptionKeysAmong, GroupKeys, GroupKeysAmong, isPlainFile, isGroupFile, metSide, metSides};
 ghost use Rattle.keys.specs.Blocks.{rowsBetween};
 
 const HASH: u64 = 35;
@@ -73,7 +73,7 @@ pub fn key_word(file: iff::File) -> usize
     }
 }
 
-// A file's table names this key.
+// A file's table names this key. Every row in use is gone through.
 pub fn names(file: iff::File, t: &[u64], key: u64) -> bool
     ensures { λ r. ⌜ r ≡ has key (keysIn file (now (t .entry))) ⌝ }
 {
@@ -83,55 +83,92 @@ pub fn names(file: iff::File, t: &[u64], key: u64) -> bool
     tables::has_key(t, w, tag, col, key)
 }
 
-// Every how many rows a key stands, after the first row; 0 where there is no such distance.
-fn stride(file: iff::File) -> usize
-    ensures { λ r. ⌜ r ≡ strideOf file ⌝ }
-{
-    match file {
-        iff::File::Delivery => 1,
-        iff::File::Company => 1,
-        iff::File::Country => 1,
-        iff::File::Trnsmode => 1,
-        iff::File::Timezone => 0,
-        iff::File::Stations => 1,
-        iff::File::Footnote => 2,
-        iff::File::Timetbls => 0,
-        iff::File::Changes => 0,
-        iff::File::Xfootnote => 2,
-        iff::File::Xchanges => 0,
-    }
-}
+// A SEARCH BY HALVES
 
-// How many keys stand at that distance in some rows, the first of which has none.
-fn key_count(rows: usize, every: usize) -> usize
-    requires { ⌜ (0 < every) × (every < 3) ⌝ }
-    ensures { λ r. ⌜ CountOf rows every r ⌝ }
-{
-    if every == 2 {
-        return rows / 2;
-    }
-    if rows == 0 {
-        return 0;
-    }
-    rows - 1
-}
-
-// A search by halves among keys that rise and stand at even distances.
-fn halved(file: iff::File, t: &[u64], rows: usize, every: usize, count: usize, key: u64) -> bool
-    requires { ⌜ KeysAt file rows every count (now t) ⌝ }
-    ensures { λ r. ⌜ r ≡ has key (keysIn file (now (t .entry))) ⌝ }
+// How many rows of a table are in use.
+pub fn used_rows(file: iff::File, t: &[u64]) -> usize
+    ensures { λ r. ⌜ r ≡ length (rowsIn file (now (t .entry))) ⌝ }
 {
     let w = tables::row_width(file);
+    tables::row_count(t, w)
+}
+
+// How many rows a lookup goes through: those in use, as far as there is room for them.
+fn rows_among(t: &[u64], w: usize, used: usize) -> usize
+    requires { ⌜ 0 < w ⌝ }
+    ensures { λ r. ⌜ r ≡ atMost used (length (now (t .entry)) / w) ⌝ }
+{
+    let room = t.len() / w;
+    if used < room {
+        return used;
+    }
+    room
+}
+
+// The `#` of a footnote stands right before its vector, and the first of them in row 1.
+fn footnote_head(i: usize) -> usize
+    requires { ⌜ 0 < i ⌝ }
+    ensures { λ r. ⌜ r ≤ i ⌝ }
+{
+    if i % 2 == 1 {
+        return i;
+    }
+    i - 1
+}
+
+// A row of TIMETBLS tells the line's number in its block, so that its `#` is found in one step. A number that leads out of the table is no help.
+fn block_head(t: &[u64], i: usize) -> usize
+    requires { ⌜ i * 7 + 7 ≤ length (now t) ⌝ }
+    ensures { λ r. ⌜ r ≤ i ⌝ }
+{
+    let line = tables::word_at(t, 7, i, 6) as usize;
+    if line == 0 {
+        return i;
+    }
+    if i < line {
+        return i;
+    }
+    i - (line - 1)
+}
+
+// The row that names what row `i` belongs to. It is where a search looks, and nothing rests on its being right.
+fn head_row(file: iff::File, t: &[u64], i: usize) -> usize
+    requires { ⌜ (0 < i) × (i * rowWidth file + rowWidth file ≤ length (now t)) ⌝ }
+    ensures { λ r. ⌜ r ≤ i ⌝ }
+{
+    match file {
+        iff::File::Delivery => i,
+        iff::File::Company => i,
+        iff::File::Country => i,
+        iff::File::Trnsmode => i,
+        iff::File::Timezone => i,
+        iff::File::Stations => i,
+        iff::File::Footnote => footnote_head(i),
+        iff::File::Timetbls => block_head(t, i),
+        iff::File::Changes => i,
+        iff::File::Xfootnote => footnote_head(i),
+        iff::File::Xchanges => i,
+    }
+}
+
+// A search by halves among the first rows, row 0 apart, which is the first line's. A row is tested before it is called found, so the answer true
+// leans on no order of the keys. Where they rise every key is found, and where they do not one may be missed: that is a matter of time alone.
+fn found_by_halves(file: iff::File, t: &[u64], used: usize, key: u64) -> bool
+    ensures { λ r. ⌜ (r ≡ true → has key (keysAmong file used (now (t .entry))) ≡ true) ⌝ }
+{
+    let w = tables::row_width(file);
+    let tag = key_tag(file);
     let col = key_word(file);
-    let mut low = 0;
-    let mut high = count;
+    let rows = rows_among(t, w, used);
+    let mut low = 1;
+    let mut high = rows;
     while low < high {
         let middle = low + (high - low) / 2;
-        let found = tables::word_at(t, w, 1 + every * middle, col);
-        if found == key {
+        let at = head_row(file, t, middle);
+        if tables::keyed_at(t, w, at, tag, col, key) {
             return true;
         }
-        if found < key {
+        if tables::word_at(t, w, at, col) < key {
             low = middle + 1;
         } else {
             high = middle;
@@ -140,17 +177,87 @@ fn halved(file: iff::File, t: &[u64], rows: usize, every: usize, count: usize, k
     false
 }
 
-// The same answer as `names`, for callers who know that the keys rise: in few steps where they stand at even distances.
-pub fn names_rising(file: iff::File, t: &[u64], rows: usize, key: u64) -> bool
-    requires { ⌜ RisingKeys file rows (now t) ⌝ }
-    ensures { λ r. ⌜ r ≡ has key (keysIn file (now (t .entry))) ⌝ }
+// The same among all of the first rows, one after the other.
+fn found_by_scan(file: iff::File, t: &[u64], used: usize, key: u64) -> bool
+    ensures { λ r. ⌜ r ≡ has key (keysAmong file used (now (t .entry))) ⌝ }
 {
-    let every = stride(file);
-    if every == 0 {
-        return names(file, t, key);
+    let w = tables::row_width(file);
+    let tag = key_tag(file);
+    let col = key_word(file);
+    let rows = rows_among(t, w, used);
+    let mut i = 0;
+    while i < rows {
+        if tables::keyed_at(t, w, i, tag, col, key) {
+            return true;
+        }
+        i += 1;
     }
-    let count = key_count(rows, every);
-    halved(file, t, rows, every, count, key)
+    false
+}
+
+// The first `used` rows of a file's table name this key. A delivery that is accepted names only what is there, so where keys rise no scan is made.
+pub fn names_among(file: iff::File, t: &[u64], used: usize, key: u64) -> bool
+    ensures { λ r. ⌜ r ≡ has key (keysAmong file used (now (t .entry))) ⌝ }
+{
+    if found_by_halves(file, t, used, key) {
+        return true;
+    }
+    found_by_scan(file, t, used, key)
+}
+
+// ROWS IN USE, counted once for a file that is read, and not for each of its lines
+
+// Of the tables that a block of TIMETBLS names.
+pub struct BlockCounts {
+    pub companies: usize,
+    pub modes: usize,
+    pub stations: usize,
+    pub footnotes: usize,
+}
+
+// Of the tables that files of groups name.
+pub struct GroupCounts {
+    pub companies: usize,
+    pub modes: usize,
+    pub stations: usize,
+    pub services: usize,
+    pub xfootnotes: usize,
+}
+
+// Counts them. What the tables name is then named by these first rows.
+pub fn count_for_blocks(
+    companies: &[u64],
+    modes: &[u64],
+    stations: &[u64],
+    footnotes: &[u64],
+) -> BlockCounts
+    ensures { λ r. ⌜ ((c : Context) → BlockKeys c (now (companies .entry)) (now (modes .entry)) (now (stations .entry)) (now (footnotes .entry)) → BlockKeysAmong c r (now (companies .entry)) (now (modes .entry)) (now (stations .entry)) (now (footnotes .entry))) ⌝ }
+{
+    BlockCounts {
+        companies: used_rows(iff::File::Company, companies),
+        modes: used_rows(iff::File::Trnsmode, modes),
+        stations: used_rows(iff::File::Stations, stations),
+        footnotes: used_rows(iff::File::Footnote, footnotes),
+    }
+}
+
+// Counts those, likewise.
+pub fn count_for_groups(
+    companies: &[u64],
+    modes: &[u64],
+    stations: &[u64],
+    services: &[u64],
+    xfootnotes: &[u64],
+) -> GroupCounts
+    ensures { λ r. ⌜ ((c : Context) → GroupKeys c (now (companies .entry)) (now (modes .entry)) (now (stations .entry)) (now (services .entry)) (now (xfootnotes .entry)) → GroupKeysAmong c r (now (companies .entry)) (now (modes .entry)) (now (stations .entry)) (now (services .entry)) (now (xfootnotes .entry))) ⌝ }
+{
+    GroupCounts {
+        companies: used_rows(iff::File::Company, companies),
+        modes: used_rows(iff::File::Trnsmode, modes),
+        stations: used_rows(iff::File::Stations, stations),
+        services: used_rows(iff::File::Timetbls, services),
+        xfootnotes: used_rows(iff::File::Xfootnote, xfootnotes),
+    }
 }
 
 // RUNS OF KEYS
@@ -214,13 +321,14 @@ pub fn is_fresh(file: iff::File, run: KeyRun, t: &[u64], key: u64) -> bool
 // What a line of a TIMETBLS block names is there. The attribute's own code is not looked up.
 pub fn met_in_block(
     row: &[u64],
+    counts: BlockCounts,
     companies: &[u64],
     modes: &[u64],
     stations: &[u64],
     footnotes: &[u64],
 ) -> bool
     requires { ⌜ 5 ≤ length (now row) ⌝ }
-    ensures { λ r. ⌜ ((c : Context) → BlockKeys c (now (companies .entry)) (now (modes .entry)) (now (stations .entry)) (now (footnotes .entry)) → r ≡ metInBlock c (now (row .entry))) ⌝ }
+    ensures { λ r. ⌜ ((c : Context) → BlockKeysAmong c counts (now (companies .entry)) (now (modes .entry)) (now (stations .entry)) (now (footnotes .entry)) → r ≡ metInBlock c (now (row .entry))) ⌝ }
 {
     let tag = row[0];
     let name = row[1];
@@ -229,21 +337,21 @@ pub fn met_in_block(
         return true;
     }
     if tag == PERCENT {
-        return names(iff::File::Company, companies, name);
+        return names_among(iff::File::Company, companies, counts.companies, name);
     }
     if tag == DASH {
-        return names(iff::File::Footnote, footnotes, name);
+        return names_among(iff::File::Footnote, footnotes, counts.footnotes, name);
     }
     if tag == AMPERSAND {
-        return names(iff::File::Trnsmode, modes, name);
+        return names_among(iff::File::Trnsmode, modes, counts.modes, name);
     }
     if tag == ASTERISK {
-        return names(iff::File::Footnote, footnotes, footnote);
+        return names_among(iff::File::Footnote, footnotes, counts.footnotes, footnote);
     }
     if tag == QUESTION {
-        return names(iff::File::Footnote, footnotes, name);
+        return names_among(iff::File::Footnote, footnotes, counts.footnotes, name);
     }
-    names(iff::File::Stations, stations, name)
+    names_among(iff::File::Stations, stations, counts.stations, name)
 }
 
 // A station's country and zone are there.
@@ -258,64 +366,70 @@ pub fn met_station(row: &[u64], countries: &[u64], zones: &[u64]) -> bool
 }
 
 // Both services of a pair are there.
-fn met_pair(from: u64, to: u64, services: &[u64]) -> bool
-    ensures { λ r. ⌜ r ≡ (has from (keysIn Timetbls (now (services .entry))) && has to (keysIn Timetbls (now (services .entry)))) ⌝ }
+fn met_pair(from: u64, to: u64, used: usize, services: &[u64]) -> bool
+    ensures { λ r. ⌜ r ≡ (has from (keysAmong Timetbls used (now (services .entry))) && has to (keysAmong Timetbls used (now (services .entry)))) ⌝ }
 {
-    if names(iff::File::Timetbls, services, from) {
-        return names(iff::File::Timetbls, services, to);
+    if names_among(iff::File::Timetbls, services, used, from) {
+        return names_among(iff::File::Timetbls, services, used, to);
     }
     false
 }
 
 // The station of a group of CHANGES is there, and the services of a pair.
-pub fn met_change(row: &[u64], stations: &[u64], services: &[u64]) -> bool
+pub fn met_change(row: &[u64], counts: GroupCounts, stations: &[u64], services: &[u64]) -> bool
     requires { ⌜ length (now row) ≡ rowWidth Changes ⌝ }
-    ensures { λ r. ⌜ ((c : Context) → ChangeKeys c (now (stations .entry)) (now (services .entry)) → r ≡ met c Changes (now (row .entry))) ⌝ }
+    ensures { λ r. ⌜ ((c : Context) → ChangeKeysAmong c counts (now (stations .entry)) (now (services .entry)) → r ≡ met c Changes (now (row .entry))) ⌝ }
 {
     if row[0] == HASH {
-        return names(iff::File::Stations, stations, row[1]);
+        return names_among(iff::File::Stations, stations, counts.stations, row[1]);
     }
-    met_pair(row[1], row[2], services)
+    met_pair(row[1], row[2], counts.services, services)
 }
 
 // A company that an exception names; the wildcard is in no table.
-fn met_company(company: u64, companies: &[u64]) -> bool
-    ensures { λ r. ⌜ r ≡ (eqb company anyCompany || has company (keysIn Company (now (companies .entry)))) ⌝ }
+fn met_company(company: u64, used: usize, companies: &[u64]) -> bool
+    ensures { λ r. ⌜ r ≡ (eqb company anyCompany || has company (keysAmong Company used (now (companies .entry)))) ⌝ }
 {
     if company == ANY_COMPANY {
         return true;
     }
-    names(iff::File::Company, companies, company)
+    names_among(iff::File::Company, companies, used, company)
 }
 
 // A mode that an exception names, likewise.
-fn met_mode(mode: u64, modes: &[u64]) -> bool
-    ensures { λ r. ⌜ r ≡ (eqb mode anyMode || has mode (keysIn Trnsmode (now (modes .entry)))) ⌝ }
+fn met_mode(mode: u64, used: usize, modes: &[u64]) -> bool
+    ensures { λ r. ⌜ r ≡ (eqb mode anyMode || has mode (keysAmong Trnsmode used (now (modes .entry)))) ⌝ }
 {
     if mode == ANY_MODE {
         return true;
     }
-    names(iff::File::Trnsmode, modes, mode)
+    names_among(iff::File::Trnsmode, modes, used, mode)
 }
 
 // One side of an exception: the service changed from, or the one changed to.
-fn met_side(company: u64, mode: u64, companies: &[u64], modes: &[u64]) -> bool
-    ensures { λ r. ⌜ r ≡ metSide (now (companies .entry)) (now (modes .entry)) company mode ⌝ }
+fn met_side(company: u64, mode: u64, counts: GroupCounts, companies: &[u64], modes: &[u64]) -> bool
+    ensures { λ r. ⌜ r ≡ metSide counts (now (companies .entry)) (now (modes .entry)) company mode ⌝ }
 {
-    if met_company(company, companies) {
-        return met_mode(mode, modes);
+    if met_company(company, counts.companies, companies) {
+        return met_mode(mode, counts.modes, modes);
     }
     false
 }
 
 // Both sides of an exception, and its footnote, which is in XFOOTNOTE.
-fn met_sides(row: &[u64], companies: &[u64], modes: &[u64], xfootnotes: &[u64]) -> bool
+fn met_sides(
+    row: &[u64],
+    counts: GroupCounts,
+    companies: &[u64],
+    modes: &[u64],
+    xfootnotes: &[u64],
+) -> bool
     requires { ⌜ length (now row) ≡ rowWidth Xchanges ⌝ }
-    ensures { λ r. ⌜ r ≡ metSides (now (companies .entry)) (now (modes .entry)) (now (xfootnotes .entry)) (now (row .entry)) ⌝ }
+    ensures { λ r. ⌜ r ≡ metSides counts (now (companies .entry)) (now (modes .entry)) (now (xfootnotes .entry)) (now (row .entry)) ⌝ }
 {
-    if met_side(row[1], row[2], companies, modes) {
-        if met_side(row[3], row[4], companies, modes) {
-            return names(iff::File::Xfootnote, xfootnotes, row[6]);
+    if met_side(row[1], row[2], counts, companies, modes) {
+        if met_side(row[3], row[4], counts, companies, modes) {
+            return names_among(iff::File::Xfootnote, xfootnotes, counts.xfootnotes, row[6]);
         }
         return false;
     }
@@ -325,18 +439,19 @@ fn met_sides(row: &[u64], companies: &[u64], modes: &[u64], xfootnotes: &[u64]) 
 // The station of a group of XCHANGES is there, and what an exception names.
 pub fn met_exception(
     row: &[u64],
+    counts: GroupCounts,
     companies: &[u64],
     modes: &[u64],
     stations: &[u64],
     xfootnotes: &[u64],
 ) -> bool
     requires { ⌜ length (now row) ≡ rowWidth Xchanges ⌝ }
-    ensures { λ r. ⌜ ((c : Context) → ExceptionKeys c (now (companies .entry)) (now (modes .entry)) (now (stations .entry)) (now (xfootnotes .entry)) → r ≡ met c Xchanges (now (row .entry))) ⌝ }
+    ensures { λ r. ⌜ ((c : Context) → ExceptionKeysAmong c counts (now (companies .entry)) (now (modes .entry)) (now (stations .entry)) (now (xfootnotes .entry)) → r ≡ met c Xchanges (now (row .entry))) ⌝ }
 {
     if row[0] == HASH {
-        return names(iff::File::Stations, stations, row[1]);
+        return names_among(iff::File::Stations, stations, counts.stations, row[1]);
     }
-    met_sides(row, companies, modes, xfootnotes)
+    met_sides(row, counts, companies, modes, xfootnotes)
 }
 
 // What a row of a file without record letters names is there. Only STATIONS names anything.
@@ -363,6 +478,7 @@ pub fn met_plain(file: iff::File, row: &[u64], countries: &[u64], zones: &[u64])
 pub fn met_group(
     file: iff::File,
     row: &[u64],
+    counts: GroupCounts,
     companies: &[u64],
     modes: &[u64],
     stations: &[u64],
@@ -370,11 +486,11 @@ pub fn met_group(
     xfootnotes: &[u64],
 ) -> bool
     requires { ⌜ (isGroupFile file ≡ true) × (length (now row) ≡ rowWidth file) ⌝ }
-    ensures { λ r. ⌜ ((c : Context) → GroupKeys c (now (companies .entry)) (now (modes .entry)) (now (stations .entry)) (now (services .entry)) (now (xfootnotes .entry)) → r ≡ met c file (now (row .entry))) ⌝ }
+    ensures { λ r. ⌜ ((c : Context) → GroupKeysAmong c counts (now (companies .entry)) (now (modes .entry)) (now (stations .entry)) (now (services .entry)) (now (xfootnotes .entry)) → r ≡ met c file (now (row .entry))) ⌝ }
 {
     match file {
-        iff::File::Changes => met_change(row, stations, services),
-        iff::File::Xchanges => met_exception(row, companies, modes, stations, xfootnotes),
+        iff::File::Changes => met_change(row, counts, stations, services),
+        iff::File::Xchanges => met_exception(row, counts, companies, modes, stations, xfootnotes),
         iff::File::Delivery => true,
         iff::File::Company => true,
         iff::File::Country => true,

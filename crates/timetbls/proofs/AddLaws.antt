@@ -34,6 +34,7 @@ use Rattle.keys.proofs.Fills.{keys-append}
 use Rattle.legs.proofs.RowLaws.{block-lines}
 use Rattle.blocks.specs.declared.Checked.{Checked}
 use Rattle.blocks.specs.declared.Checked.the-variants.{Whole, Broken}
+use Rattle.keys.specs.declared.BlockCounts.{BlockCounts}
 use Rattle.blocks.specs.Whole.{WholeBlock, BlockChecked}
 use Rattle.blocks.proofs.WholeLaws.{fresh-service}
 use Rattle.timetbls.specs.declared.Added.the-variants.{Kept, Faulty}
@@ -72,9 +73,9 @@ module _ (t : List ℕ) (from : ℕ) where
           record { says = rw (strays, q); clean = λ z. absurd (let y : _≡_ {A = ℕ} 0 1 = cc in omega arith) }
 
 -- ONE BLOCK, tested against the services of the table
-pub tested : (b t co mo st fo : List ℕ) (service : ℕ) (fresh : Bool) (r : Checked) → isHash (asBlock b .top) ≡ true → service ≡ serviceOf (asBlock b)
-    → fresh ≡ not (has service (keysIn Timetbls t)) → BlockChecked b fresh co mo st fo r → BlockTested b t co mo st fo r
-tested b t co mo st fo service fresh r h s f k =
+pub tested : (b t : List ℕ) (counts : BlockCounts) (co mo st fo : List ℕ) (service : ℕ) (fresh : Bool) (r : Checked) → isHash (asBlock b .top) ≡ true → service ≡ serviceOf (asBlock b)
+    → fresh ≡ not (has service (keysIn Timetbls t)) → BlockChecked b fresh counts co mo st fo r → BlockTested b t counts co mo st fo r
+tested b t counts co mo st fo service fresh r h s f k =
     record {
       says =
           λ c a o. k .says c a (keysIn Timetbls t)
@@ -103,8 +104,8 @@ fill-more n rs qs u =
     (rw (joined-append, length-append, append-assoc))
 
 -- THE BLOCK IS REFUSED, or kept
-module _ (b was co mo st fo : List ℕ) (x : Checked) (y : BlockTested b was co mo st fo x) where
-  pub added-faulty : (w : Reason) (j : ℕ) → x ≡ Broken w j → (is : List ℕ) → BlockAdded b was is co mo st fo (Faulty w j)
+module _ (b was : List ℕ) (counts : BlockCounts) (co mo st fo : List ℕ) (x : Checked) (y : BlockTested b was counts co mo st fo x) where
+  pub added-faulty : (w : Reason) (j : ℕ) → x ≡ Broken w j → (is : List ℕ) → BlockAdded b was is counts co mo st fo (Faulty w j)
   added-faulty w j e is =
       record {
         says = λ c a o. rw e at (y .says c a o);
@@ -146,7 +147,7 @@ module _ (b was co mo st fo : List ℕ) (x : Checked) (y : BlockTested b was co 
       now-keys : keysIn Timetbls is ≡ keysIn Timetbls was ++ (serviceOf (asBlock b) ∷ [])
       now-keys = ap (keysOf Timetbls) now-rows ∙ keys-append Timetbls (rowsIn Timetbls was) rows ∙ rw (block-keys (asBlock b) (a .one .opens) (a .one .single))
 
-      pub added-kept : (next : KeyRun) (to : ℕ) → next ≡ stepRun run (serviceOf (asBlock b)) → to ≡ row + k → BlockAdded b was is co mo st fo (Kept next to)
+      pub added-kept : (next : KeyRun) (to : ℕ) → next ≡ stepRun run (serviceOf (asBlock b)) → to ≡ row + k → BlockAdded b was is counts co mo st fo (Kept next to)
       added-kept next to p q =
           record {
             says = λ c g o. rw e at (y .says c g o);

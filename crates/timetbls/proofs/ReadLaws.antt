@@ -24,7 +24,8 @@ use Rattle.tables.proofs.Filled.{rows-in-fill}
 use Rattle.keys.specs.declared.KeyRun.{KeyRun}
 use Rattle.keys.specs.Lookup.{keysIn}
 use Rattle.keys.specs.Runs.{noKeys}
-use Rattle.keys.specs.Agree.{BlockKeys}
+use Rattle.keys.specs.declared.BlockCounts.{BlockCounts}
+use Rattle.keys.specs.Agree.{BlockKeys, BlockKeysAmong}
 use Rattle.keys.proofs.Runs.{run-rises}
 use Rattle.reading.specs.declared.RowsRead.{RowsRead}
 use Rattle.reading.specs.declared.RowsRead.the-variants.{AllRead, Stopped}
@@ -35,7 +36,7 @@ use Rattle.timetbls.specs.Blocks.{part, Clean, NextBlock, StrayTold, Hol
 use Rattle.timetbls.proofs.RowLaws.{rows-count, key-skips, keys-nil}
 
 -- A LOOP OVER BLOCKS, at `at` and after `done` blocks: what is left says what all were to say, and leaves the rows that all were to leave
-pub record Adding (text : List ℕ) (from : ℕ) (co mo st fo was is : List ℕ) (at row done : ℕ) (run : KeyRun) : Type 0 where
+pub record Adding (text : List ℕ) (from : ℕ) (counts : BlockCounts) (co mo st fo was is : List ℕ) (at row done : ℕ) (run : KeyRun) : Type 0 where
   pub inside : at ≤ length text
   pub few : done ≤ at
   pub kept : length is ≡ length was
@@ -43,10 +44,10 @@ pub record Adding (text : List ℕ) (from : ℕ) (co mo st fo was is : List ℕ)
   pub holding : Holding is run row
   pub room : (row + length (lines (drop at text))) * 7 ≤ length is
   pub rows : rowsIn Timetbls was ++ blocksRows (blocksOf (lines (drop from text))) ≡ rowsIn Timetbls is ++ blocksRows (blocksOf (lines (drop at text)))
-  pub says : (c : Context) → BlockKeys c co mo st fo → blocksVerdict c (keysIn Timetbls was) 1 (lines (drop from text)) ≡ blocksVerdict c (keysIn Timetbls is) (suc done) (lines (drop at text))
+  pub says : (c : Context) → BlockKeysAmong c counts co mo st fo → blocksVerdict c (keysIn Timetbls was) 1 (lines (drop from text)) ≡ blocksVerdict c (keysIn Timetbls is) (suc done) (lines (drop at text))
 
-module _ (text : List ℕ) (from : ℕ) (co mo st fo was : List ℕ) where
-  pub adding-start : BlocksReady text from was → (run : KeyRun) → run ≡ noKeys → Adding text from co mo st fo was was from 1 0 run
+module _ (text : List ℕ) (from : ℕ) (counts : BlockCounts) (co mo st fo was : List ℕ) where
+  pub adding-start : BlocksReady text from was → (run : KeyRun) → run ≡ noKeys → Adding text from counts co mo st fo was was from 1 0 run
   adding-start p run e =
       record {
         inside = p .inside;
@@ -59,7 +60,7 @@ module _ (text : List ℕ) (from : ℕ) (co mo st fo was : List ℕ) where
         says = λ c a. refl;
       }
 
-  module _ (is : List ℕ) (at row done : ℕ) (run : KeyRun) (k : Adding text from co mo st fo was is at row done run) where
+  module _ (is : List ℕ) (at row done : ℕ) (run : KeyRun) (k : Adding text from counts co mo st fo was is at row done run) where
     -- the next block
     module _ (next : ℕ) (n : NextBlock text at next) where
       abbrev b : List ℕ
@@ -73,8 +74,8 @@ module _ (text : List ℕ) (from : ℕ) (co mo st fo was : List ℕ) where
       unfolding scan
       step c = rw (n .blocks)
 
-      module _ (to : List ℕ) (r : Added) (y : BlockAdded b is to co mo st fo r) where
-        pub adding-faulty : (w : Reason) (j : ℕ) → r ≡ Faulty w j → BlocksAdded text from co mo st fo was to (Stopped w (At Timetbls (done + 1) j))
+      module _ (to : List ℕ) (r : Added) (y : BlockAdded b is to counts co mo st fo r) where
+        pub adding-faulty : (w : Reason) (j : ℕ) → r ≡ Faulty w j → BlocksAdded text from counts co mo st fo was to (Stopped w (At Timetbls (done + 1) j))
         adding-faulty w j e =
             record {
               says = λ c a. rw add-one (sym (k .says c a ∙ step c ∙ rw (← (y .says c a (suc done)), e)));
@@ -83,7 +84,7 @@ module _ (text : List ℕ) (from : ℕ) (co mo st fo was : List ℕ) where
               rises = λ z. absurd (let q : _≡_ {A = ℕ} 0 1 = cc in omega arith);
             }
 
-        pub adding-next : (with : KeyRun) (behind : ℕ) → r ≡ Kept with behind → length to ≡ length is → Adding text from co mo st fo was to next behind (done + 1) with
+        pub adding-next : (with : KeyRun) (behind : ℕ) → r ≡ Kept with behind → length to ≡ length is → Adding text from counts co mo st fo was to next behind (done + 1) with
         unfolding blocksRows
         adding-next with behind e m =
             let g = y .grown with behind e in
@@ -109,7 +110,7 @@ module _ (text : List ℕ) (from : ℕ) (co mo st fo was : List ℕ) where
       unfolding groups
       none = ap blocksOf (lines-end text at h)
 
-      pub adding-end : BlocksAdded text from co mo st fo was is (AllRead (run .rises))
+      pub adding-end : BlocksAdded text from counts co mo st fo was is (AllRead (run .rises))
       unfolding scan blocksRows
       adding-end =
           record {
@@ -173,15 +174,17 @@ module _ (text : List ℕ) (from : ℕ) (was : List ℕ) where
     unfolding timetblsVerdict firstFault
     verdict-is c e = rw (s .clean e) (or-fine (blocksVerdict c [] 1 (lines (drop from text))))
 
-    pub read-all : x ≡ Passes → (is : List ℕ) (r : RowsRead) → BlocksAdded text from co mo st fo was is r → length is ≡ length was → BlocksRead text from co mo st fo was is r
-    read-all e is r y m =
+    -- among the rows in use, which name what the tables name
+    pub read-all : x ≡ Passes → (counts : BlockCounts) → ((c : Context) → BlockKeys c co mo st fo → BlockKeysAmong c counts co mo st fo)
+        → (is : List ℕ) (r : RowsRead) → BlocksAdded text from counts co mo st fo was is r → length is ≡ length was → BlocksRead text from co mo st fo was is r
+    read-all e counts among is r y m =
         record {
           done =
               λ days first b. let ls = lines (drop from text) in
               let f = begun-rows (length ls) first was b in
               let g = begun-keys (length ls) first was b in
               record {
-                verdict = λ c d a. y .says c a ∙ ap (λ ks. blocksVerdict c ks 1 ls) g ∙ sym (verdict-is c e);
+                verdict = λ c d a. y .says c (among c a) ∙ ap (λ ks. blocksVerdict c ks 1 ls) g ∙ sym (verdict-is c e);
                 table = λ z. y .filled z ∙ ap (λ n. fill 7 n (rowsIn Timetbls is)) m ∙ ap (fill 7 (length was)) (y .rows z ∙ ap (λ (rs : List Row). rs ++ blocksRows (blocksOf ls)) f);
                 rises =
                     λ z. y .rises z

@@ -21,7 +21,8 @@ use Rattle.records.specs.Facts.{Legible}
 use Rattle.keys.specs.declared.KeyRun.{KeyRun}
 use Rattle.keys.specs.Lookup.{keysIn}
 use Rattle.keys.specs.Runs.{noKeys, runOf}
-use Rattle.keys.specs.Agree.{BlockKeys}
+use Rattle.keys.specs.declared.BlockCounts.{BlockCounts}
+use Rattle.keys.specs.Agree.{BlockKeys, BlockKeysAmong}
 use Rattle.blocks.specs.declared.Checked.{Checked}
 use Rattle.blocks.specs.declared.Checked.the-variants.{Whole}
 use Rattle.blocks.specs.Whole.{checkedAt, WholeBlock}
@@ -75,8 +76,8 @@ pub record Holding (t : List ℕ) (run : KeyRun) (row : ℕ) : Type 0 where
   pub rows : row ≡ length (rowsIn Timetbls t)
 
 -- A BLOCK THAT IS TESTED after those of the table, whichever its ordinal
-pub record BlockTested (b t co mo st fo : List ℕ) (r : Checked) : Type 0 where
-  pub says : (c : Context) → BlockKeys c co mo st fo → (o : ℕ) → checkedAt o r ≡ blockVerdict c (keysIn Timetbls t) o (asBlock b)
+pub record BlockTested (b t : List ℕ) (counts : BlockCounts) (co mo st fo : List ℕ) (r : Checked) : Type 0 where
+  pub says : (c : Context) → BlockKeysAmong c counts co mo st fo → (o : ℕ) → checkedAt o r ≡ blockVerdict c (keysIn Timetbls t) o (asBlock b)
   pub whole : (k n : ℕ) → r ≡ Whole k n → WholeBlock b k n
 
 -- A BLOCK THAT IS ADDED
@@ -94,8 +95,8 @@ pub record Grown (b was is : List ℕ) (run : KeyRun) (row : ℕ) : Type 0 where
   pub rows : rowsIn Timetbls is ≡ rowsIn Timetbls was ++ blockRows (asBlock b)
   pub seen : keysIn Timetbls is ≡ keysIn Timetbls was ++ (serviceOf (asBlock b) ∷ [])
 
-pub record BlockAdded (b was is co mo st fo : List ℕ) (r : Added) : Type 0 where
-  pub says : (c : Context) → BlockKeys c co mo st fo → (o : ℕ) → addedAt o r ≡ blockVerdict c (keysIn Timetbls was) o (asBlock b)
+pub record BlockAdded (b was is : List ℕ) (counts : BlockCounts) (co mo st fo : List ℕ) (r : Added) : Type 0 where
+  pub says : (c : Context) → BlockKeysAmong c counts co mo st fo → (o : ℕ) → addedAt o r ≡ blockVerdict c (keysIn Timetbls was) o (asBlock b)
   pub grown : (run : KeyRun) (row : ℕ) → r ≡ Kept run row → Grown b was is run row
 
 -- BLOCKS ONE AFTER THE OTHER, the first of which is block o, after blocks of some services
@@ -108,8 +109,8 @@ pub record BlocksReady (text : List ℕ) (from : ℕ) (t : List ℕ) : Type 0 wh
   pub holding : Holding t noKeys 1
   pub room : (1 + length (lines (drop from text))) * 7 ≤ length t
 
-pub record BlocksAdded (text : List ℕ) (from : ℕ) (co mo st fo was is : List ℕ) (r : RowsRead) : Type 0 where
-  pub says : (c : Context) → BlockKeys c co mo st fo → rowsVerdict r ≡ blocksVerdict c (keysIn Timetbls was) 1 (lines (drop from text))
+pub record BlocksAdded (text : List ℕ) (from : ℕ) (counts : BlockCounts) (co mo st fo was is : List ℕ) (r : RowsRead) : Type 0 where
+  pub says : (c : Context) → BlockKeysAmong c counts co mo st fo → rowsVerdict r ≡ blocksVerdict c (keysIn Timetbls was) 1 (lines (drop from text))
   pub filled : rowsVerdict r ≡ Fine → is ≡ fill 7 (length is) (rowsIn Timetbls is)
   pub rows : rowsVerdict r ≡ Fine → rowsIn Timetbls is ≡ rowsIn Timetbls was ++ blocksRows (blocksOf (lines (drop from text)))
   pub rises : rowsVerdict r ≡ Fine → risesOf r ≡ rising (keysIn Timetbls is)

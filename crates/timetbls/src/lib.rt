@@ -92,17 +92,18 @@ fn test_block(
     block: &[u8],
     run: keys::KeyRun,
     t: &[u64],
+    counts: keys::BlockCounts,
     companies: &[u64],
     modes: &[u64],
     stations: &[u64],
     footnotes: &[u64],
 ) -> blocks::Checked
     requires { ⌜ (run ≡ runOf (keysIn Timetbls (now t))) × (isHash (asBlock (now block) .top) ≡ true) ⌝ }
-    ensures { λ r. ⌜ BlockTested (now (block .entry)) (now (t .entry)) (now (companies .entry)) (now (modes .entry)) (now (stations .entry)) (now (footnotes .entry)) r ⌝ }
+    ensures { λ r. ⌜ BlockTested (now (block .entry)) (now (t .entry)) counts (now (companies .entry)) (now (modes .entry)) (now (stations .entry)) (now (footnotes .entry)) r ⌝ }
 {
     let service = blocks::service_of(block);
     let fresh = keys::is_fresh(iff::File::Timetbls, run, t, service);
-    blocks::check_block(block, fresh, companies, modes, stations, footnotes)
+    blocks::check_block(block, fresh, counts, companies, modes, stations, footnotes)
 }
 
 // What is remembered of the services with this block's.
@@ -119,15 +120,16 @@ fn add_block(
     run: keys::KeyRun,
     row: usize,
     t: &mut [u64],
+    counts: keys::BlockCounts,
     companies: &[u64],
     modes: &[u64],
     stations: &[u64],
     footnotes: &[u64],
 ) -> Added
     requires { ⌜ Addable (now block) (now t) run row ⌝ }
-    ensures { λ r. ⌜ BlockAdded (now (block .entry)) (now (t .entry)) (now (t .exit)) (now (companies .entry)) (now (modes .entry)) (now (stations .entry)) (now (footnotes .entry)) r ⌝ }
+    ensures { λ r. ⌜ BlockAdded (now (block .entry)) (now (t .entry)) (now (t .exit)) counts (now (companies .entry)) (now (modes .entry)) (now (stations .entry)) (now (footnotes .entry)) r ⌝ }
 {
-    match test_block(block, run, t, companies, modes, stations, footnotes) {
+    match test_block(block, run, t, counts, companies, modes, stations, footnotes) {
         blocks::Checked::Broken(why, line) => Added::Faulty(why, line),
         blocks::Checked::Whole(k, n) => {
             write_block(block, k, n, t, row);
@@ -142,13 +144,14 @@ fn add_blocks(
     text: &[u8],
     from: usize,
     t: &mut [u64],
+    counts: keys::BlockCounts,
     companies: &[u64],
     modes: &[u64],
     stations: &[u64],
     footnotes: &[u64],
 ) -> reading::RowsRead
     requires { ⌜ BlocksReady (now text) from (now t) ⌝ }
-    ensures { λ r. ⌜ BlocksAdded (now (text .entry)) from (now (companies .entry)) (now (modes .entry)) (now (stations .entry)) (now (footnotes .entry)) (now (t .entry)) (now (t .exit)) r ⌝ }
+    ensures { λ r. ⌜ BlocksAdded (now (text .entry)) from counts (now (companies .entry)) (now (modes .entry)) (now (stations .entry)) (now (footnotes .entry)) (now (t .entry)) (now (t .exit)) r ⌝ }
 {
     let mut at = from;
     let mut row: usize = 1;
@@ -162,6 +165,7 @@ fn add_blocks(
             run,
             row,
             t,
+            counts,
             companies,
             modes,
             stations,
@@ -220,7 +224,10 @@ pub fn read_blocks(
             let place = iff::Place::At(iff::File::Timetbls, 0, 2);
             reading::RowsRead::Stopped(why, place)
         }
-        iff::Test::Passes => add_blocks(text, from, t, companies, modes, stations, footnotes),
+        iff::Test::Passes => {
+            let counts = keys::count_for_blocks(companies, modes, stations, footnotes);
+            add_blocks(text, from, t, counts, companies, modes, stations, footnotes)
+        }
     }
 }
 

@@ -52,11 +52,11 @@ abbrev of-read-stops : ℕ → read-stops-lts.Claims
 of-read-stops t = (read-platform-below t, read-platform.Post, line-at-reads.Asked, line-at-reads.Learnt)
 
 abbrev Inv-loop : read-stops-lts.InvT-loop
-Inv-loop block from before fresh companies modes stations footnotes at₀ done₀ st₀ at done st =
-    Reading (keysFrom companies modes stations footnotes) fresh block at₀ st₀ done₀ at st done
+Inv-loop block from before fresh counts companies modes stations footnotes at₀ done₀ st₀ at done st =
+    Reading (keysFrom counts companies modes stations footnotes) fresh block at₀ st₀ done₀ at st done
 
 abbrev μ-loop : read-stops-lts.MeasureT-loop
-μ-loop block from before fresh companies modes stations footnotes at₀ done₀ st₀ at done st = length block - at
+μ-loop block from before fresh counts companies modes stations footnotes at₀ done₀ st₀ at done st = length block - at
 
 pub +read-platform+read-stops-spec : {M : Type 1} → statement M
 +read-platform+read-stops-spec = close μ-read-platform μ-read-stops (λ t. read-platform-lts.spec (of-read-platform t)

@@ -17,7 +17,7 @@ returns c =
     let s = m .before .before .before .before .before .before .before in
     let a = s .args in
     layout-fails (a .line .now) (a .ended) (a .letter) _ (s .pre) (m .before .record-of .ensures)
-    (keysFrom (a .companies .now) (a .modes .now) (a .stations .now) (a .footnotes .now)) (a .fresh) (a .stops) _ (m .line-layout .ensures) _ (c .before .why .given .1)
+    (keysFrom (a .counts) (a .companies .now) (a .modes .now) (a .stations .now) (a .footnotes .now)) (a .fresh) (a .stops) _ (m .line-layout .ensures) _ (c .before .why .given .1)
 
 returns-2 : tie.Need-returns-2
 returns-2 c =
@@ -25,7 +25,7 @@ returns-2 c =
     let s = m .before .before .before .before .before .before .before in
     let a = s .args in
     layout-passes (a .line .now) (a .ended) (a .letter) _ (s .pre) (m .before .record-of .ensures)
-    (keysFrom (a .companies .now) (a .modes .now) (a .stations .now) (a .footnotes .now)) (a .fresh) (a .stops) _ (m .line-layout .ensures)
+    (keysFrom (a .counts) (a .companies .now) (a .modes .now) (a .stations .now) (a .footnotes .now)) (a .fresh) (a .stops) _ (m .line-layout .ensures)
     (c .before .before .before .before .before .enum-told .given .1) _ (c .before .before .before .put-words .ensures) _ (c .row-test .ensures)
 
 pub record-test-spec : {M : Type 1} → statement M

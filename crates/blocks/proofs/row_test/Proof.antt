@@ -19,8 +19,8 @@ row-test-spec =
     (λ c. not-met _ _ _ _
     (sym (c .before .before .before .before .before .before .row-means .ensures) ∙ not-false _ (c .before .before .before .before .before .if1 .left))
     (sym (c .before .before .before .is-new .ensures) ∙ not-false _ (c .before .before .if2 .left))
-    (sym (c .before .met-in-block .ensures _ (keys-agree _ _ _ _)) ∙ not-true _ (c .if3 .taken)))
+    (sym (c .before .met-in-block .ensures _ (keys-agree _ _ _ _ _)) ∙ not-true _ (c .if3 .taken)))
     (λ c. row-passes _ _ _ _
     (sym (c .before .before .before .before .before .before .row-means .ensures) ∙ not-false _ (c .before .before .before .before .before .if1 .left))
     (sym (c .before .before .before .is-new .ensures) ∙ not-false _ (c .before .before .if2 .left))
-    (sym (c .before .met-in-block .ensures _ (keys-agree _ _ _ _)) ∙ not-false _ (c .if3 .left))))
+    (sym (c .before .met-in-block .ensures _ (keys-agree _ _ _ _ _)) ∙ not-false _ (c .if3 .left))))

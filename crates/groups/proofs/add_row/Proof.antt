@@ -16,8 +16,8 @@ slice-read-run-after c = omega (arith, width-least (c .before .before .before .b
 slice-read-run-after-2 : tie.Need-slice-read-run-after-2
 slice-read-run-after-2 c = omega (arith, width-least (c .before .before .before .before .before .before .before .before .before .before .before .before .before .before .before .before .before .before .before .before .before .before .args .file), c .before .before .before .before .before .before .before .before .before .before .before .test-row .ensures .kept, c .before .before .before .before .before .before .before .before .before .before .before .before .before .before .before .before .before .before .before .before .before .before .pre .1)
 
-add-t26 : tie.Need-add-t26
-add-t26 c = omega (arith, c .before .before .before .before .before .before .before .before .before .before .before .before .before .before .before .before .before .before .before .before .before .before .before .pre .0 .part, c .before .before .before .before .before .before .before .before .before .before .before .before .before .before .before .before .before .before .before .before .before .before .before .pre .0 .few, c .before .before .before .before .before .before .before .before .before .before .before .before .before .before .before .before .before .before .before .before .before .before .before)
+add-t27 : tie.Need-add-t27
+add-t27 c = omega (arith, c .before .before .before .before .before .before .before .before .before .before .before .before .before .before .before .before .before .before .before .before .before .before .before .pre .0 .part, c .before .before .before .before .before .before .before .before .before .before .before .before .before .before .before .before .before .before .before .before .before .before .before .pre .0 .few, c .before .before .before .before .before .before .before .before .before .before .before .before .before .before .before .before .before .before .before .before .before .before .before)
 
 returns : tie.Need-returns
 returns c = step-no _ _ _ _ _ _ _ (c .before .before .before .before .before .before .before .before .before .before .before .before .before .before .before .before .pre .0 .part) _ _ _ _ (c .before .before .before .before .before .test-row .ensures) _ (c .before .r .given .1)
@@ -36,7 +36,7 @@ add-row-spec =
     slice-read-run-after
     slice-read-run-after-2
     (λ c κs. search needs)
-    add-t26
+    add-t27
     (λ c. search needs)
     (λ c. search needs)
     returns

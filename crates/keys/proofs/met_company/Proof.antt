@@ -9,7 +9,7 @@ returns : tie.Need-returns
 returns c = rw (any-company, eq-eqb _ _ (c .if1 .taken))
 
 returns-2 : tie.Need-returns-2
-returns-2 c = rw (any-company, ne-eqb _ _ (c .before .if1 .left)) (c .names .ensures)
+returns-2 c = rw (any-company, ne-eqb _ _ (c .before .if1 .left)) (c .names-among .ensures)
 
 pub met-company-spec : {M : Type 1} → statement M
 met-company-spec = tie.close (tie.spec returns (λ c κs. search needs) returns-2)

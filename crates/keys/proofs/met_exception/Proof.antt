@@ -9,11 +9,11 @@ use Rattle.keys.proofs.met_exception.Tie as tie
 
 returns : tie.Need-returns
 unfolding met
-returns c k a = rw (eq-eqb _ _ (c .before .before .if1 .taken), a .stations) (c .names .ensures)
+returns c k a = rw (eq-eqb _ _ (c .before .before .if1 .taken), a .stations) (c .names-among .ensures)
 
 returns-2 : tie.Need-returns-2
 unfolding met
-returns-2 c k a = rw (ne-eqb _ _ (c .before .if1 .left)) (c .met-sides .ensures ∙ sides-met k _ _ _ _ a (c .before .before .before .before .before .before .before .before .args .row .now))
+returns-2 c k a = rw (ne-eqb _ _ (c .before .if1 .left)) (c .met-sides .ensures ∙ sides-met k _ _ _ _ _ a (c .before .before .before .before .before .before .before .before .args .row .now))
 
 pub met-exception-spec : {M : Type 1} → statement M
 met-exception-spec =

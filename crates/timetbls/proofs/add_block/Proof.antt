@@ -12,7 +12,7 @@ write-block-requires c κs =
     let y = k .before .before in
     let s = y .before .before .before .before .before .before .before .before in
     let a = s .args in
-    placeable (a .block .now) (a .t .now) (a .companies .now) (a .modes .now) (a .stations .now) (a .footnotes .now) _ (y .test-block .ensures) (a .run) (a .row) (s .pre) _ _ (k .k .given .1)
+    placeable (a .block .now) (a .t .now) (a .counts) (a .companies .now) (a .modes .now) (a .stations .now) (a .footnotes .now) _ (y .test-block .ensures) (a .run) (a .row) (s .pre) _ _ (k .k .given .1)
 
 add-next : tie.Need-add-next
 add-next c =
@@ -20,7 +20,7 @@ add-next c =
     let y = k .before .before in
     let s = y .before .before .before .before .before .before .before .before in
     let a = s .args in
-    let p = placeable (a .block .now) (a .t .now) (a .companies .now) (a .modes .now) (a .stations .now) (a .footnotes .now) _ (y .test-block .ensures) (a .run) (a .row) (s .pre) _ _ (k .k .given .1) in
+    let p = placeable (a .block .now) (a .t .now) (a .counts) (a .companies .now) (a .modes .now) (a .stations .now) (a .footnotes .now) _ (y .test-block .ensures) (a .run) (a .row) (s .pre) _ _ (k .k .given .1) in
     omega (arith, p .room)
 
 returns : tie.Need-returns
@@ -28,7 +28,7 @@ returns c =
     let y = c .before .before .before in
     let s = y .before .before .before .before .before .before .before .before in
     let a = s .args in
-    added-faulty (a .block .now) (a .t .now) (a .companies .now) (a .modes .now) (a .stations .now) (a .footnotes .now) _ (y .test-block .ensures) _ _ (c .before .why .given .1) _
+    added-faulty (a .block .now) (a .t .now) (a .counts) (a .companies .now) (a .modes .now) (a .stations .now) (a .footnotes .now) _ (y .test-block .ensures) _ _ (c .before .why .given .1) _
 
 returns-2 : tie.Need-returns-2
 returns-2 c =
@@ -37,7 +37,7 @@ returns-2 c =
     let y = k .before .before in
     let s = y .before .before .before .before .before .before .before .before in
     let a = s .args in
-    added-kept (a .block .now) (a .t .now) (a .companies .now) (a .modes .now) (a .stations .now) (a .footnotes .now) _ (y .test-block .ensures) (a .run) (a .row) (s .pre) _ _ (k .k .given .1)
+    added-kept (a .block .now) (a .t .now) (a .counts) (a .companies .now) (a .modes .now) (a .stations .now) (a .footnotes .now) _ (y .test-block .ensures) (a .run) (a .row) (s .pre) _ _ (k .k .given .1)
     _ (w .write-block .kept .1 .1 .1 .0) (w .write-block .ensures) _ _ (c .after-block .ensures) refl
 
 pub add-block-spec : {M : Type 1} → statement M

@@ -7,16 +7,16 @@ use Rattle.timetbls.proofs.add_blocks.Statement.{statement}
 use Rattle.timetbls.proofs.add_blocks.Tie as tie
 
 abbrev Inv-loop : tie.InvT-loop
-Inv-loop text from t₀ companies modes stations footnotes at₀ row₀ done₀ run₀ t at row done run =
-    Adding text from companies modes stations footnotes t₀ t at row done run
+Inv-loop text from t₀ counts companies modes stations footnotes at₀ row₀ done₀ run₀ t at row done run =
+    Adding text from counts companies modes stations footnotes t₀ t at row done run
 
 abbrev μ-loop : tie.MeasureT-loop
-μ-loop text from t₀ companies modes stations footnotes at₀ row₀ done₀ run₀ t at row done run = length text - at
+μ-loop text from t₀ counts companies modes stations footnotes at₀ row₀ done₀ run₀ t at row done run = length text - at
 
 loop-holds : tie.Need-loop-holds Inv-loop μ-loop
 loop-holds c =
     let s = c .before .before .before .before .before .before .before in
-    adding-start _ _ _ _ _ _ _ (s .pre) _ (c .no-keys .ensures)
+    adding-start _ _ _ _ _ _ _ _ (s .pre) _ (c .no-keys .ensures)
 
 next-head-requires : tie.Need-next-head-requires Inv-loop μ-loop
 next-head-requires c κs = (c .loop-test .taken, c .before .loop .inv .clean)
@@ -25,27 +25,27 @@ add-block-requires : tie.Need-add-block-requires Inv-loop μ-loop
 add-block-requires c κs =
     let n = c .before .before in
     let l = n .before .before .loop in
-    addable _ _ _ _ _ _ _ (l .t) (l .at) (l .row) (l .done) (l .run) (l .inv) _ (n .next-head .ensures)
+    addable _ _ _ _ _ _ _ _ (l .t) (l .at) (l .row) (l .done) (l .run) (l .inv) _ (n .next-head .ensures)
 
 returns : tie.Need-returns Inv-loop μ-loop
 returns c =
     let y = c .before .before .before .before .before in
     let n = y .before .before .before in
     let l = n .before .before .loop in
-    adding-faulty _ _ _ _ _ _ _ (l .t) (l .at) (l .row) (l .done) (l .run) (l .inv) _ (n .next-head .ensures) _ _ (y .add-block .ensures) _ _ (c .before .why .given .1)
+    adding-faulty _ _ _ _ _ _ _ _ (l .t) (l .at) (l .row) (l .done) (l .run) (l .inv) _ (n .next-head .ensures) _ _ (y .add-block .ensures) _ _ (c .before .why .given .1)
 
 loop-again : tie.Need-loop-again Inv-loop μ-loop
 loop-again c =
     let y = c .before .before .before .before .before in
     let n = y .before .before .before in
     let l = n .before .before .loop in
-    adding-next _ _ _ _ _ _ _ (l .t) (l .at) (l .row) (l .done) (l .run) (l .inv) _ (n .next-head .ensures) _ _ (y .add-block .ensures) _ _ (c .before .with .given .1)
+    adding-next _ _ _ _ _ _ _ _ (l .t) (l .at) (l .row) (l .done) (l .run) (l .inv) _ (n .next-head .ensures) _ _ (y .add-block .ensures) _ _ (c .before .with .given .1)
     (y .add-block .kept .1 .1 .1 .0)
 
 returns-2 : tie.Need-returns-2 Inv-loop μ-loop
 returns-2 c =
     let l = c .before .loop in
-    adding-end _ _ _ _ _ _ _ (l .t) (l .at) (l .row) (l .done) (l .run) (l .inv) (c .loop-test .left)
+    adding-end _ _ _ _ _ _ _ _ (l .t) (l .at) (l .row) (l .done) (l .run) (l .inv) (c .loop-test .left)
 
 pub add-blocks-spec : {M : Type 1} → statement M
 add-blocks-spec =

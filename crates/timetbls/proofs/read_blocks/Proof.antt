@@ -6,9 +6,10 @@ use Rattle.timetbls.proofs.read_blocks.Tie as tie
 
 add-blocks-requires : tie.Need-add-blocks-requires
 add-blocks-requires c κs =
-    let x = c .before .before .before in
+    let e = c .before .before in
+    let x = e .before .before in
     let s = x .before .before .before .before .before .before .before in
-    blocks-ready _ _ _ (s .pre) _ (x .stray-test .ensures) (c .before .enum-told .given .1)
+    blocks-ready _ _ _ (s .pre) _ (x .stray-test .ensures) (e .enum-told .given .1)
 
 returns : tie.Need-returns
 returns c =
@@ -18,8 +19,9 @@ returns c =
 returns-2 : tie.Need-returns-2
 returns-2 c =
     let y = c .before .before in
-    let x = y .before .before .before .before in
-    read-all _ _ _ _ _ _ _ _ (x .stray-test .ensures) (y .before .before .enum-told .given .1) _ _ (y .add-blocks .ensures) (y .add-blocks .kept .1 .1 .0)
+    let n = y .before .before in
+    let e = n .before in
+    read-all _ _ _ _ _ _ _ _ (e .before .before .stray-test .ensures) (e .enum-told .given .1) _ (n .count-for-blocks .ensures) _ _ (y .add-blocks .ensures) (y .add-blocks .kept .1 .1 .0)
 
 pub read-blocks-spec : {M : Type 1} → statement M
 read-blocks-spec =
@@ -28,6 +30,7 @@ read-blocks-spec =
     (λ c κs. search needs)
     (λ c. search needs)
     (λ c. search needs)
+    (λ c κs. search needs)
     add-blocks-requires
     returns
     (λ c. search needs)

@@ -10,7 +10,7 @@ returns c =
     let v = f .before in
     let s = v .before .before .before .before .before .before .before in
     let a = s .args in
-    tested (a .block .now) (a .t .now) (a .companies .now) (a .modes .now) (a .stations .now) (a .footnotes .now) _ _ _ (s .pre .1) (v .service-of .ensures) (f .is-fresh .ensures) (c .check-block .ensures)
+    tested (a .block .now) (a .t .now) (a .counts) (a .companies .now) (a .modes .now) (a .stations .now) (a .footnotes .now) _ _ _ (s .pre .1) (v .service-of .ensures) (f .is-fresh .ensures) (c .check-block .ensures)
 
 pub test-block-spec : {M : Type 1} → statement M
 test-block-spec =

@@ -1,0 +1,61 @@
+-- `found_by_halves` meets its contract: the row that is found was tested, and is one of the first rows. Assumes nothing.
+use Prim.Native.Nat.{_-_, _≤_, _<_}
+use mathlib.Core.Bool.{false≢true}
+use borrow.Author.Needs.{needs}
+use native.Mathlib.Omega.{arith}
+use Rattle.keys.proofs.Lookup.{key-column}
+use Rattle.keys.proofs.Among.{row-among, hit-among}
+use Rattle.keys.proofs.found_by_halves.Statement.{statement}
+use Rattle.keys.proofs.found_by_halves.Tie as tie
+
+abbrev Inv-loop : tie.InvT-loop
+Inv-loop file t used key w tag col rows low₀ high₀ low high = (0 < low) × (high ≤ rows)
+
+abbrev μ-loop : tie.MeasureT-loop
+μ-loop file t used key w tag col rows low₀ high₀ low high = high - low
+
+head-row-requires : tie.Need-head-row-requires Inv-loop μ-loop
+head-row-requires c κs =
+    let n = c .before .before in
+    let s = n .before .before .before .before .before in
+    (omega arith, rw (← n .before .before .before .row-width .ensures .is) (row-among _ (s .args .used) _ _ (n .rows-among .ensures) _ (omega arith)))
+
+-- the row that is tested is one of the first
+keyed-at-requires : tie.Need-keyed-at-requires Inv-loop μ-loop
+keyed-at-requires c κs =
+    let n = c .before .before .before in
+    let s = n .before .before .before .before .before in
+    (key-column (s .args .file) _ _ _ (n .before .before .before .row-width .ensures .is) (n .before .before .key-tag .ensures) (n .before .key-word .ensures), row-among _ (s .args .used) _ _ (n .rows-among .ensures) _ (omega arith))
+
+word-at-requires : tie.Need-word-at-requires Inv-loop μ-loop
+word-at-requires c κs = keyed-at-requires (c .before .before) κs
+
+returns : tie.Need-returns Inv-loop μ-loop
+returns c e =
+    let n = c .before .before .before .before .before in
+    let a = n .before .before .before .before .before .args in
+    hit-among (a .file) _ _ _ (n .before .before .before .row-width .ensures .is) (n .before .before .key-tag .ensures) (n .before .key-word .ensures) (a .t .now) (a .used) (a .key) _ (n .rows-among .ensures) _ (omega arith) _ (c .before .keyed-at .ensures) (c .if1 .taken)
+
+pub found-by-halves-spec : {M : Type 1} → statement M
+found-by-halves-spec =
+    tie.close
+    (tie.spec
+    Inv-loop
+    μ-loop
+    (λ c κs. search needs)
+    (λ c κs. search needs)
+    (λ c κs. search needs)
+    (λ c κs. search needs)
+    (λ c. (omega arith, omega arith))
+    (λ c. search needs)
+    (λ c. search needs)
+    head-row-requires
+    keyed-at-requires
+    returns
+    word-at-requires
+    (λ c. search needs)
+    (λ c. search needs)
+    (λ c. (omega arith, omega arith))
+    (λ c. search needs)
+    (λ c. (omega arith, omega arith))
+    (λ c e. absurd (false≢true e)))
