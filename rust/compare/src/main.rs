@@ -43,23 +43,15 @@ fn main() -> ExitCode {
 fn compare_all(session: &mut Session) -> io::Result<Vec<String>> {
     let start = Instant::now();
     let mut tally = Tally::default();
-    let mut complaints = Vec::new();
     made::compare_all(session, &mut tally)?;
-    if tally.accepted() * 100 < tally.total() * ACCEPTED_IN_100 {
-        complaints.push(format!("Only {} of {} deliveries are accepted.", tally.accepted(), tally.total()));
-    }
+    let mut complaints: Vec<String> = too_few_accepted(&tally).into_iter().collect();
     let replaced = bytes::compare_all(session)?;
     complaints.extend(lengths::compare_all(session, &mut tally)?);
     println!("{tally}");
     println!("Bytes replaced: {} deliveries, {} accepted.", replaced.total(), replaced.accepted());
     println!("{} differences in {:.0?}.", session.differences(), start.elapsed());
 
-    complaints.extend(tally.rarer_than(OFTEN).into_iter().map(|(number, file)| {
-        format!("Refusal {number} in {} was met {} times only.", name(file), tally.refused(number, file))
-    }));
-    complaints.extend(tally.unexpected().into_iter().map(|(number, file)| {
-        format!("Refusal {number} in {} cannot occur by document 01, and did.", name(file))
-    }));
+    complaints.extend(rare_or_odd(&tally));
     if session.differences() > 0 {
         let (count, folder) = (session.differences(), session.folder());
         complaints.push(format!("The two programs differ on {count} deliveries; the first are in {folder}."));
@@ -67,6 +59,19 @@ fn compare_all(session: &mut Session) -> io::Result<Vec<String>> {
     Ok(complaints)
 }
 
-fn name(file: u8) -> &'static str {
-    NAMES[usize::from(file) - 1]
+fn too_few_accepted(tally: &Tally) -> Option<String> {
+    let too_few = tally.accepted() * 100 < tally.total() * ACCEPTED_IN_100;
+    too_few.then(|| format!("Only {} of {} deliveries are accepted.", tally.accepted(), tally.total()))
+}
+
+/// The refusals that were met too rarely, and those that document 01 shuts out.
+fn rare_or_odd(tally: &Tally) -> Vec<String> {
+    let name = |file: u8| NAMES.get(usize::from(file).wrapping_sub(1)).unwrap_or(&"no file");
+    let rare = tally.rarer_than(OFTEN).into_iter().map(|(number, file)| {
+        format!("Refusal {number} in {} was met {} times only.", name(file), tally.refused(number, file))
+    });
+    let odd = tally.unexpected().into_iter().map(|(number, file)| {
+        format!("Refusal {number} in {} cannot occur by document 01, and did.", name(file))
+    });
+    rare.chain(odd).collect()
 }

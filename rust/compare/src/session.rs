@@ -1,6 +1,5 @@
 //! A run of many comparisons: its counts, and what becomes of a difference.
 
-use std::fmt::Write;
 use std::path::PathBuf;
 use std::{fs, io};
 
@@ -40,41 +39,27 @@ impl Session {
             self.differences += 1;
             eprintln!("{name}: the two programs differ.");
             if self.differences <= WRITTEN {
-                self.write(name, files, &lengths, [("proved", &proved), ("second", &second)])?;
+                let path = self.folder.join(name);
+                folder::write(&files, &path)?;
+                fs::write(path.join("answers.txt"), explained(&lengths, &proved, &second))?;
             }
         }
         Ok(second.answer)
     }
-
-    fn write(
-        &self,
-        name: &str,
-        files: Files,
-        lengths: &Lengths,
-        outcomes: [(&str, &Outcome); 2],
-    ) -> io::Result<()> {
-        let path = self.folder.join(name);
-        folder::write(&files, &path)?;
-        fs::write(path.join("answers.txt"), explained(lengths, outcomes))
-    }
 }
 
 /// Both answers, the lengths of the tables, and where these first differ.
-fn explained(lengths: &Lengths, outcomes: [(&str, &Outcome); 2]) -> String {
-    let mut text = String::new();
-    for (program, outcome) in outcomes {
-        writeln!(text, "{program}: {}", shown(outcome.answer)).expect("a string takes every text");
-    }
-    writeln!(text, "words lent: {}", lengths.map(|length| length.to_string()).join(" "))
-        .expect("a string takes every text");
-    let [(_, proved), (_, second)] = outcomes;
+fn explained(lengths: &Lengths, proved: &Outcome, second: &Outcome) -> String {
+    let mut lines = vec![
+        format!("proved: {}", shown(proved.answer)),
+        format!("second: {}", shown(second.answer)),
+        format!("words lent: {}", lengths.map(|length| length.to_string()).join(" ")),
+    ];
     for (name, (left, right)) in NAMES.iter().zip(proved.tables.iter().zip(&second.tables)) {
-        if let Some(word) = (0..left.len()).find(|&word| left[word] != right[word]) {
-            writeln!(text, "table {name}, word {word}: {} and {}", left[word], right[word])
-                .expect("a string takes every text");
-        }
+        let unlike = left.iter().zip(right).position(|(left, right)| left != right);
+        lines.extend(unlike.map(|word| format!("{name}, word {word}: {} and {}", left[word], right[word])));
     }
-    text
+    lines.join("\n") + "\n"
 }
 
 /// An answer as the check program of document 01 shows it.
