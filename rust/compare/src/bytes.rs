@@ -3,16 +3,12 @@
 use std::io;
 
 use compare::{lengths_of, Lengths};
-use deliveries::{place, sound, Case, Tally, FILES};
+use deliveries::{place, sound, Case, Tally, FILES, TELLING_BYTES};
 
 use crate::session::{count, Session};
 
 /// Other values for each byte.
 const VALUES: usize = 6;
-
-/// Bytes with a meaning and at the borders of what is allowed. Each place in a
-/// file takes some of them, its neighbours others.
-const TELLING: &[u8] = b"@#%-&*>.+;<?,0129 \r\n\x00\x1f\x7e\x7f\x80\x9f\xa0\xff";
 
 /// The letters that each file must hold; in a file without letters a row will do.
 const LETTERS: [(usize, &[u8]); 6] = [
@@ -57,10 +53,11 @@ fn compare_values(
     Ok(())
 }
 
-/// The byte's neighbours and bytes with a meaning, which ones by the place.
+/// The byte's neighbours and telling bytes: each place in a file takes some of
+/// them, the next place others.
 fn other_values(byte: u8, at: usize) -> impl Iterator<Item = u8> {
     let neighbours = [byte.wrapping_add(1), byte.wrapping_sub(1)];
-    let telling = TELLING.iter().copied().cycle().skip(at * 5 % TELLING.len());
+    let telling = TELLING_BYTES.iter().copied().cycle().skip(at * 5 % TELLING_BYTES.len());
     let others = telling.filter(move |&other| other != byte && !neighbours.contains(&other));
     neighbours.into_iter().chain(others).take(VALUES)
 }

@@ -9,7 +9,7 @@ use crate::text::{code, free, join, number, split};
 use crate::FILES;
 
 /// Bytes at the borders of what is allowed, and those with a meaning.
-const BYTES: &[u8] = b"@#%-&*>.+;<?,0129 \r\n\x00\x1f\x7e\x7f\x80\x9f\xa0\xff";
+pub const TELLING_BYTES: &[u8] = b"@#%-&*>.+;<?,0129 \r\n\x00\x1f\x7e\x7f\x80\x9f\xa0\xff";
 
 /// How often each file is damaged: by how much it can go wrong in.
 const WEIGHTS: [usize; FILES] = [2, 2, 2, 2, 3, 3, 2, 12, 3, 2, 4];
@@ -92,7 +92,7 @@ fn any_byte(rng: &mut Rng) -> u8 {
     if rng.percent(50) {
         return rng.word() as u8;
     }
-    *rng.pick(BYTES)
+    *rng.pick(TELLING_BYTES)
 }
 
 /// Drops, doubles, swaps, lengthens or shortens a line, or adds an empty one.

@@ -20,6 +20,7 @@ mod world;
 
 pub use amendments::{amendment, edited, Amendment};
 pub use cases::{damaged, large, limit, limits, mixed, sound, Case, Limit};
+pub use damage::TELLING_BYTES;
 pub use questions::{question, Question};
 pub use rng::Rng;
 pub use shape::Shape;
