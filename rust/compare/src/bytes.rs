@@ -5,7 +5,7 @@ use std::io;
 use compare::{lengths_of, Lengths};
 use deliveries::{place, sound, Case, Tally, FILES, TELLING_BYTES};
 
-use crate::session::{count, Session};
+use crate::comparison::{count, Comparison};
 
 /// Other values for each byte.
 const VALUES: usize = 6;
@@ -21,21 +21,21 @@ const LETTERS: [(usize, &[u8]); 6] = [
 ];
 
 /// Replaces every byte in turn; answers how many deliveries that made.
-pub fn compare_all(session: &mut Session) -> io::Result<Tally> {
+pub fn compare_all(comparison: &mut Comparison) -> io::Result<Tally> {
     let case = with_every_record();
     // A byte replaced by CR or LF can end a line.
     let lengths = lengths_of(&case.rooms.map(|room| room + 2));
     let mut tally = Tally::default();
     for file in 0..FILES {
         for at in 0..case.files[file].len() {
-            compare_values(session, &mut tally, &case, lengths, file, at)?;
+            compare_values(comparison, &mut tally, &case, lengths, file, at)?;
         }
     }
     Ok(tally)
 }
 
 fn compare_values(
-    session: &mut Session,
+    comparison: &mut Comparison,
     tally: &mut Tally,
     case: &Case,
     lengths: Lengths,
@@ -48,7 +48,7 @@ fn compare_values(
         let mut files = case.texts();
         files[file] = &text;
         let name = format!("{}-byte-{at}-{value}", deliveries::NAMES[file]);
-        count(tally, session.compare(&name, files, lengths)?);
+        count(tally, comparison.compare(&name, files, lengths)?);
     }
     Ok(())
 }

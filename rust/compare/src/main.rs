@@ -6,9 +6,9 @@
 //! of its files with both answers in `answers.txt`.
 
 mod bytes;
+mod comparison;
 mod lengths;
 mod made;
-mod session;
 
 use std::path::PathBuf;
 use std::process::ExitCode;
@@ -17,7 +17,7 @@ use std::{env, io};
 
 use deliveries::{Tally, NAMES};
 
-use crate::session::Session;
+use crate::comparison::Comparison;
 
 /// Every refusal is met so often in every file where it can occur.
 const OFTEN: usize = 20;
@@ -26,7 +26,7 @@ const ACCEPTED_IN_100: usize = 30;
 
 fn main() -> ExitCode {
     let folder = env::args_os().nth(1).map_or_else(|| PathBuf::from("target/differences"), PathBuf::from);
-    let complaints = match compare_all(&mut Session::new(folder)) {
+    let complaints = match compare_all(&mut Comparison::new(folder)) {
         Ok(complaints) => complaints,
         Err(error) => vec![format!("A differing delivery could not be written: {error}.")],
     };
@@ -40,20 +40,20 @@ fn main() -> ExitCode {
 }
 
 /// Runs all comparisons; answers what is wrong, in sentences.
-fn compare_all(session: &mut Session) -> io::Result<Vec<String>> {
+fn compare_all(comparison: &mut Comparison) -> io::Result<Vec<String>> {
     let start = Instant::now();
     let mut tally = Tally::default();
-    made::compare_all(session, &mut tally)?;
+    made::compare_all(comparison, &mut tally)?;
     let mut complaints: Vec<String> = too_few_accepted(&tally).into_iter().collect();
-    let replaced = bytes::compare_all(session)?;
-    complaints.extend(lengths::compare_all(session, &mut tally)?);
+    let replaced = bytes::compare_all(comparison)?;
+    complaints.extend(lengths::compare_all(comparison, &mut tally)?);
     println!("{tally}");
     println!("Bytes replaced: {} deliveries, {} accepted.", replaced.total(), replaced.accepted());
-    println!("{} differences in {:.0?}.", session.differences(), start.elapsed());
+    println!("{} differences in {:.0?}.", comparison.differences(), start.elapsed());
 
     complaints.extend(rare_or_odd(&tally));
-    if session.differences() > 0 {
-        let (count, folder) = (session.differences(), session.folder());
+    if comparison.differences() > 0 {
+        let (count, folder) = (comparison.differences(), comparison.folder());
         complaints.push(format!("The two programs differ on {count} deliveries; the first are in {folder}."));
     }
     Ok(complaints)

@@ -10,16 +10,16 @@ use proved::Answer;
 /// So many differing deliveries are written out; the others are only counted.
 const WRITTEN: usize = 5;
 
-pub struct Session {
+pub struct Comparison {
     folder: PathBuf,
     differences: usize,
     rng: Rng,
 }
 
-impl Session {
+impl Comparison {
     /// Differing deliveries are written into folders below this one.
-    pub fn new(folder: PathBuf) -> Session {
-        Session { folder, differences: 0, rng: Rng::new(1) }
+    pub fn new(folder: PathBuf) -> Comparison {
+        Comparison { folder, differences: 0, rng: Rng::new(1) }
     }
 
     pub fn differences(&self) -> usize {
