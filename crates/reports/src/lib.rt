@@ -8,7 +8,6 @@ ghost use mathlib.Core.List.{[], _∷_};
 ghost use Prim.Native.Nat.{_≤_};
 ghost use lib.ListN.{length, take};
 ghost use Rattle.iff.specs.Bytes.{blank};
-ghost use Rattle.iff.specs.Refusals.{number, ordinal, lineAt};
 ghost use Rattle.reports.specs.Texts.{Appended, Front, lastDigit, digits, decimal};
 ghost use Rattle.reports.specs.Report.{fileName, placeName, field, answerLine, whereText, reportLine, pathOf, nameSize, nameBytes};
 ghost use Rattle.iff.specs.declared.Answer.the-variants.{Accepted, Refused};
@@ -148,48 +147,6 @@ pub fn put_path(folder: &[u8], file: File, out: &mut [u8]) -> usize
 
 // LINES
 
-fn number_of(reason: Reason) -> u64
-    ensures { λ r. ⌜ r ≡ number reason ⌝ }
-{
-    match reason {
-        Reason::TooLong => 1,
-        Reason::NoRoom => 2,
-        Reason::Absent => 3,
-        Reason::Layout => 4,
-        Reason::Value => 5,
-        Reason::FirstLine => 6,
-        Reason::Order => 7,
-        Reason::Duplicate => 8,
-        Reason::Reference => 9,
-        Reason::Legs => 10,
-        Reason::NotOneBlock => 11,
-        Reason::NoService => 12,
-        Reason::NoStop => 13,
-        Reason::NoDate => 14,
-        Reason::NoPeriod => 15,
-        Reason::NotSound => 16,
-        Reason::NoStation => 17,
-    }
-}
-
-fn ordinal_of(place: Place) -> u64
-    ensures { λ r. ⌜ r ≡ ordinal place ⌝ }
-{
-    match place {
-        Place::Nowhere => 0,
-        Place::At(_, o, _) => o,
-    }
-}
-
-fn line_of(place: Place) -> u64
-    ensures { λ r. ⌜ r ≡ lineAt place ⌝ }
-{
-    match place {
-        Place::Nowhere => 0,
-        Place::At(_, _, l) => l,
-    }
-}
-
 fn put_accepted(out: &mut [u8], days: u64, services: u64) -> usize
     ensures { λ r. ⌜ Appended (now (out .entry)) 0 (answerLine (Accepted days services)) (now (out .exit)) r ⌝ }
 {
@@ -204,8 +161,8 @@ fn put_where(out: &mut [u8], at: usize, place: Place) -> usize
     ensures { λ r. ⌜ Appended (now (out .entry)) at (whereText place) (now (out .exit)) r ⌝ }
 {
     let a = put_place(out, at, place);
-    let b = put_field(out, a, ordinal_of(place));
-    let c = put_field(out, b, line_of(place));
+    let b = put_field(out, a, answers::ordinal_of(place));
+    let c = put_field(out, b, answers::line_of(place));
     put_byte(out, c, LF)
 }
 
@@ -213,7 +170,7 @@ fn put_refused(out: &mut [u8], reason: Reason, place: Place) -> usize
     ensures { λ r. ⌜ Appended (now (out .entry)) 0 (answerLine (Refused reason place)) (now (out .exit)) r ⌝ }
 {
     let a = put_bytes(out, 0, b"refused");
-    let b = put_field(out, a, number_of(reason));
+    let b = put_field(out, a, answers::number_of(reason));
     put_where(out, b, place)
 }
 

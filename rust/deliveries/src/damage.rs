@@ -9,7 +9,7 @@ use crate::text::{code, free, join, number, split};
 use crate::FILES;
 
 /// Bytes at the borders of what is allowed, and those with a meaning.
-const BYTES: &[u8] = b"@#%-&*>.+;<?,0129 \r\n\x00\x1f\x7e\x7f\x80\x9f\xa0\xff";
+pub const TELLING_BYTES: &[u8] = b"@#%-&*>.+;<?,0129 \r\n\x00\x1f\x7e\x7f\x80\x9f\xa0\xff";
 
 /// How often each file is damaged: by how much it can go wrong in.
 const WEIGHTS: [usize; FILES] = [2, 2, 2, 2, 3, 3, 2, 12, 3, 2, 4];
@@ -25,7 +25,7 @@ pub fn damage(rng: &mut Rng, case: &mut Case) {
         75..=77 => move_between(rng, case, file),
         78..=80 => lose_cr_lf(rng, &mut case.files[file]),
         81..=82 => cut(rng, &mut case.files[file]),
-        83..=84 => case.files[file].clear(),
+        83..=84 => lose_file(rng, case),
         85..=87 => extra_line(rng, case, file),
         88..=90 => edit_lines(rng, case, file, set_first_line),
         91..=93 => set_every_first_line(rng, case),
@@ -92,7 +92,7 @@ fn any_byte(rng: &mut Rng) -> u8 {
     if rng.percent(50) {
         return rng.word() as u8;
     }
-    *rng.pick(BYTES)
+    *rng.pick(TELLING_BYTES)
 }
 
 /// Drops, doubles, swaps, lengthens or shortens a line, or adds an empty one.
@@ -324,6 +324,12 @@ const EXTRA: &[&[u8]] = &[
     b"0",
     b"1",
 ];
+
+/// Takes away a file, each with the same chance.
+fn lose_file(rng: &mut Rng, case: &mut Case) {
+    let there: Vec<usize> = (0..FILES).filter(|&file| !case.files[file].is_empty()).collect();
+    case.files[*rng.pick(&there)].clear();
+}
 
 /// A line at the end: a copy of some line of the delivery, or a short one.
 fn extra_line(rng: &mut Rng, case: &mut Case, file: usize) {

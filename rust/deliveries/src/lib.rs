@@ -10,17 +10,21 @@ mod calendar;
 pub mod cases;
 mod damage;
 mod fields;
+pub mod folder;
 pub mod questions;
 mod rng;
 mod shape;
+mod tally;
 mod text;
 mod world;
 
 pub use amendments::{amendment, edited, Amendment};
 pub use cases::{damaged, large, limit, limits, mixed, sound, Case, Limit};
+pub use damage::TELLING_BYTES;
 pub use questions::{question, Question};
 pub use rng::Rng;
 pub use shape::Shape;
+pub use tally::{can_occur, Tally};
 pub use world::World;
 
 /// How many files a delivery has.

@@ -1,9 +1,9 @@
 //! The deliveries as the second program reads them.
 
-use std::collections::{BTreeMap, BTreeSet};
+use std::collections::BTreeMap;
 
 use deliveries::{
-    amendment, edited, limit, limits, mixed, question, sound, Case, Limit, Question, Rng, World,
+    amendment, edited, limit, limits, mixed, question, sound, Case, Limit, Question, Rng, Tally, World,
 };
 use second::questions::{Side, Verdict};
 use second::{
@@ -68,24 +68,6 @@ fn limits_are_met_and_passed() {
     }
 }
 
-/// Each refusal in each file where it can occur.
-fn possible() -> BTreeSet<(u8, u8)> {
-    let all = 1..=11;
-    let mut pairs = BTreeSet::new();
-    let mut add =
-        |number: u8, files: &mut dyn Iterator<Item = u8>| pairs.extend(files.map(|file| (number, file)));
-    add(2, &mut all.clone());
-    add(3, &mut (1..=8).chain([10]));
-    add(4, &mut all.clone());
-    add(5, &mut all.clone());
-    add(6, &mut (2..=11));
-    add(7, &mut all.clone());
-    add(8, &mut (2..=11));
-    add(9, &mut [1, 6, 8, 9, 11].into_iter());
-    add(10, &mut [8].into_iter());
-    pairs
-}
-
 /// The letter of a line of TIMETBLS.
 fn letter_at(text: &[u8], ordinal: u64, line: u64) -> Option<char> {
     let lines: Vec<&[u8]> = text.split(|&byte| byte == b'\n').collect();
@@ -96,38 +78,30 @@ fn letter_at(text: &[u8], ordinal: u64, line: u64) -> Option<char> {
 
 #[test]
 fn mixed_deliveries_meet_every_refusal() {
-    const CASES: u64 = 20_000;
-    let mut refusals: BTreeMap<(u8, u8), usize> = BTreeMap::new();
+    let mut tally = Tally::default();
     let mut letters: BTreeMap<u8, BTreeMap<char, usize>> = BTreeMap::new();
-    for seed in 0..CASES {
+    for seed in 0..20_000 {
         let case = mixed(seed);
         let Err((number, file, ordinal, line)) = outcome(&case) else {
+            tally.accept();
             continue;
         };
-        *refusals.entry((number, file)).or_default() += 1;
+        tally.refuse(number, file);
         if let Some(letter) = (file == 8).then(|| letter_at(&case.files[7], ordinal, line)).flatten() {
             *letters.entry(number).or_default().entry(letter).or_default() += 1;
         }
     }
-    let accepted = CASES as usize - refusals.values().sum::<usize>();
-    show(accepted, &refusals);
+    println!("{tally}");
     println!("refusal by letter in TIMETBLS {letters:#?}");
-    assert!(accepted * 10 >= CASES as usize * 3);
-    let met: BTreeSet<(u8, u8)> = refusals.into_keys().collect();
-    assert_eq!(met, possible());
+    assert!(tally.accepted() * 10 >= tally.total() * 3);
+    assert_eq!(tally.unexpected(), []);
+    // No delivery made here is long enough for refusal 1.
+    let is_made = |&(number, _): &(u8, u8)| number != 1;
+    assert_eq!(tally.rarer_than(20).into_iter().filter(is_made).collect::<Vec<_>>(), []);
     for (number, needed) in [(4, "#%-&*>.+;<?"), (5, "#%-&*>.+;<?"), (7, "#%-&*>.+;<?"), (9, "%-&*>.+;<?")] {
         for letter in needed.chars() {
             assert!(letters[&number].contains_key(&letter), "{number} at {letter}");
         }
-    }
-}
-
-fn show(accepted: usize, refusals: &BTreeMap<(u8, u8), usize>) {
-    println!("accepted {accepted}");
-    println!("refusal by file {}", (1..=11).map(|file| format!("{file:6}")).collect::<String>());
-    for number in 2..=10 {
-        let counts = (1..=11).map(|file| refusals.get(&(number, file)).copied().unwrap_or(0));
-        println!("{number:15} {}", counts.map(|count| format!("{count:6}")).collect::<String>());
     }
 }
 

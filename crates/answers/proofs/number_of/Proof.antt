@@ -1,7 +1,7 @@
 -- `number_of` meets its contract. Assumes nothing.
 use borrow.Author.Needs.{needs}
-use Rattle.reports.proofs.number_of.Statement.{statement}
-use Rattle.reports.proofs.number_of.Tie as tie
+use Rattle.answers.proofs.number_of.Statement.{statement}
+use Rattle.answers.proofs.number_of.Tie as tie
 
 returns : tie.Need-returns
 returns c = rw (c .enum-told .given .1)

@@ -1,0 +1,58 @@
+//! Links the archive of the proved crates, which `rt staticlib exports` writes:
+//! into this program on x86-64, elsewhere into one for the kit's emulator.
+
+use std::path::{Path, PathBuf};
+use std::process::Command;
+use std::{env, process};
+
+fn main() {
+    let archive = Path::new(&variable("CARGO_MANIFEST_DIR")).join("../../target/staticlib/libexports.a");
+    println!("cargo:rerun-if-changed={}", archive.display());
+    println!("cargo:rerun-if-changed=src/servant.c");
+    if !archive.exists() {
+        stop("The archive of the proved crates is missing: run `rt staticlib exports` at the top of the repository.");
+    }
+    match variable("CARGO_CFG_TARGET_ARCH").as_str() {
+        "x86_64" => link(&archive),
+        machine => build_servant(&archive, &kit().join("on").join(machine).join("toolchain/bin")),
+    }
+}
+
+fn link(archive: &Path) {
+    let folder = archive.parent().expect("the archive has a folder");
+    println!("cargo:rustc-link-search=native={}", folder.display());
+    println!("cargo:rustc-link-lib=static=exports");
+}
+
+fn build_servant(archive: &Path, tools: &Path) {
+    let made = |name: &str| Path::new(&variable("OUT_DIR")).join(name);
+    let (object, servant) = (made("servant.o"), made("servant"));
+    let compiling =
+        ["--target=x86_64-unknown-linux-gnu", "-O2", "-ffreestanding", "-fno-stack-protector", "-c"];
+    run(Command::new(tools.join("clang")).args(compiling).arg("src/servant.c").arg("-o").arg(&object));
+    run(Command::new(tools.join("ld.lld")).arg("-static").arg("-o").arg(&servant).arg(&object).arg(archive));
+    println!("cargo:rustc-env=PROVED_EMULATOR={}", tools.join("qemu-x86_64").display());
+    println!("cargo:rustc-env=PROVED_SERVANT={}", servant.display());
+}
+
+/// The folder of the Rattle kit, of whose guide `rt doc` tells the path.
+fn kit() -> PathBuf {
+    let told = Command::new("rt").arg("doc").output().unwrap_or_else(|_| stop("`rt` was not found."));
+    let guide = PathBuf::from(String::from_utf8_lossy(&told.stdout).trim());
+    guide.ancestors().nth(2).unwrap_or_else(|| stop("`rt doc` tells no path.")).into()
+}
+
+fn run(command: &mut Command) {
+    if !command.status().is_ok_and(|status| status.success()) {
+        stop(&format!("This command failed: {command:?}"));
+    }
+}
+
+fn variable(name: &str) -> String {
+    env::var(name).unwrap_or_else(|_| stop(&format!("Cargo has not set {name}.")))
+}
+
+fn stop(why: &str) -> ! {
+    eprintln!("{why}");
+    process::exit(1)
+}

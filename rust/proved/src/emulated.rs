@@ -1,0 +1,84 @@
+//! The load in an x86-64 process under the kit's emulator.
+//!
+//! Both sides speak in 64-bit words, lowest byte first. Asked: the lengths of
+//! the eleven files in bytes, those of the eleven tables in words, what the
+//! tables hold, then the files. Answered: six words, then the tables.
+
+use std::io::{self, BufWriter, Read, Write};
+use std::process::{Child, ChildStdin, ChildStdout, Command, Stdio};
+use std::sync::{Mutex, PoisonError};
+
+use crate::{Files, Tables, Words};
+
+const WORD: usize = size_of::<u64>();
+
+/// Bytes are gathered so far before they are sent; larger files go by themselves.
+const GATHERED: usize = 1 << 20;
+
+/// Started by the first load; it ends when its input does, with this process.
+static SERVANT: Mutex<Option<Servant>> = Mutex::new(None);
+
+struct Servant {
+    questions: BufWriter<ChildStdin>,
+    answers: ChildStdout,
+    _process: Child,
+}
+
+pub fn call(files: Files, tables: Tables) -> Words {
+    let mut servant = SERVANT.lock().unwrap_or_else(PoisonError::into_inner);
+    let loaded = started(&mut servant).and_then(|servant| servant.load(files, tables));
+    loaded.unwrap_or_else(|error| panic!("The emulated load does not answer: {error}."))
+}
+
+fn started(servant: &mut Option<Servant>) -> io::Result<&mut Servant> {
+    if servant.is_none() {
+        *servant = Some(Servant::start()?);
+    }
+    servant.as_mut().ok_or_else(|| io::ErrorKind::NotConnected.into())
+}
+
+impl Servant {
+    fn start() -> io::Result<Servant> {
+        let mut process = Command::new(env!("PROVED_EMULATOR"))
+            .arg(env!("PROVED_SERVANT"))
+            .stdin(Stdio::piped())
+            .stdout(Stdio::piped())
+            .spawn()?;
+        let pipes = process.stdin.take().zip(process.stdout.take());
+        let (stdin, answers) = pipes.ok_or(io::ErrorKind::NotConnected)?;
+        Ok(Servant { questions: BufWriter::with_capacity(GATHERED, stdin), answers, _process: process })
+    }
+
+    fn load(&mut self, files: Files, tables: Tables) -> io::Result<Words> {
+        self.send(&files.map(|file| file.len() as u64))?;
+        self.send(&tables.each_ref().map(|table| table.len() as u64))?;
+        for table in &tables {
+            self.send(table)?;
+        }
+        for file in files {
+            self.questions.write_all(file)?;
+        }
+        self.questions.flush()?;
+
+        let mut answer = Words::default();
+        self.receive(&mut answer)?;
+        for table in tables {
+            self.receive(table)?;
+        }
+        Ok(answer)
+    }
+
+    fn send(&mut self, words: &[u64]) -> io::Result<()> {
+        let bytes: Vec<u8> = words.iter().flat_map(|word| word.to_le_bytes()).collect();
+        self.questions.write_all(&bytes)
+    }
+
+    fn receive(&mut self, words: &mut [u64]) -> io::Result<()> {
+        let mut bytes = vec![0; words.len() * WORD];
+        self.answers.read_exact(&mut bytes)?;
+        for (word, bytes) in words.iter_mut().zip(bytes.chunks_exact(WORD)) {
+            *word = u64::from_le_bytes(bytes.try_into().expect("a word's bytes"));
+        }
+        Ok(())
+    }
+}
