@@ -7,3 +7,4 @@ pub mod Blocks
 pub mod Among
 pub mod References
 pub mod Groups
+pub mod MarkLaws

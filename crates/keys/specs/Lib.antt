@@ -2,3 +2,4 @@ pub mod Blocks
 pub mod Lookup
 pub mod Runs
 pub mod Agree
+pub mod Marks

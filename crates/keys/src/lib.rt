@@ -4,7 +4,7 @@ ghost use mathlib.Core.List.{[], _∷_};
 ghost use mathlib.Core.Bool.{true, not, _&&_, _||_};
 ghost use Prim.Native.Nat.{_+_, _*_, _/_, _<_, _≤_};
 ghost use lib.Dec.{eqb};
-ghost use lib.ListN.{length};
+ghost use lib.ListN.{length, set};
 ghost use Rattle.iff.specs.Lists.{has, any};
 ghost use Rattle.iff.specs.Tables.{rowAt, rowWidth, rowsIn, keyTag, keyWord};
 ghost use Rattle.iff.specs.declared.File.the-variants.{Company, Trnsmode, Stations, Timetbls, Changes, Xchanges};
@@ -12,6 +12,7 @@ ghost use Rattle.iff_rules.specs.Rows.{Context};
 ghost use Rattle.iff_rules.specs.Unique.{overlap, sameWords, clash};
 ghost use Rattle.iff_rules.specs.References.{anyCompany, anyMode, metInBlock, met};
 ghost use Rattle.keys.specs.Lookup.{keysIn, atMost, keysAmong};
+ghost use Rattle.keys.specs.Marks.{slots, slotOf, Marked};
 ghost use Rattle.keys.specs.Runs.{noKeys, stillRises, stepRun, runOf};
 ghost use Rattle.keys.specs.Agree.{BlockKeys, BlockKeysAmong, StationKeys, ChangeKeysAmong, ExceptionKeysAmong, GroupKeys, GroupKeysAmong, isPlainFile, isGroupFile, metSide, metSides};
 ghost use Rattle.keys.specs.Blocks.{rowsBetween};
@@ -314,6 +315,36 @@ pub fn is_fresh(file: iff::File, run: KeyRun, t: &[u64], key: u64) -> bool
         return true;
     }
     !names(file, t, key)
+}
+
+// MARKS
+
+// Where a key's mark stands.
+fn slot(key: u64) -> usize
+    ensures { λ r. ⌜ r ≡ slotOf key ⌝ }
+{
+    (key % 262144) as usize
+}
+
+// Marks a key.
+pub fn mark(marks: &mut [u8], key: u64)
+    requires { ⌜ length (now marks) ≡ slots ⌝ }
+    ensures { λ _. ⌜ now (marks .exit) ≡ set (now (marks .entry)) (slotOf key) 1 ⌝ }
+{
+    let k = slot(key);
+    marks[k] = 1;
+}
+
+// A service that the table does not have yet. One without a mark is new whatever the order of the services, and without a search.
+pub fn is_fresh_service(marks: &[u8], run: KeyRun, t: &[u64], key: u64) -> bool
+    requires { ⌜ (run ≡ runOf (keysIn Timetbls (now t))) × Marked (now marks) (keysIn Timetbls (now t)) ⌝ }
+    ensures { λ r. ⌜ r ≡ not (has key (keysIn Timetbls (now (t .entry)))) ⌝ }
+{
+    let k = slot(key);
+    if marks[k] == 0 {
+        return true;
+    }
+    is_fresh(iff::File::Timetbls, run, t, key)
 }
 
 // REFERENCES

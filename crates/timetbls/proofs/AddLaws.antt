@@ -1,11 +1,10 @@
 -- Laws of one block: its test after those before it, and its rows behind theirs. Assumes nothing.
-use Prim.Native.Nat.{ℕ, zero, suc, _+_, _-_, _*_, _≤_}
+use Prim.Native.Nat.{ℕ, _+_, _-_, _*_, _≤_}
 use mathlib.Core.Path.{_≡_, ap, sym, _∙_}
 use mathlib.Core.List.{List, [], _∷_, _++_, append-assoc}
 use mathlib.Core.Bool.{Bool, true, false, not}
-use native.Mathlib.Nat.{sub-zero}
 use native.Mathlib.Omega.{arith}
-use lib.ListN.{length, getD, take, drop, replicate, length-append}
+use lib.ListN.{length, getD, take, drop, length-append}
 use lib.Seq.{drop-drop}
 use borrow.Author.Tests.{eq-eqb, ne-eqb}
 use Rattle.iff.specs.Bytes.{hash}
@@ -25,11 +24,11 @@ use Rattle.text.specs.Spans.{spanLine, LineAt}
 use Rattle.text.proofs.LineLaws.{lines-end}
 use Rattle.tables.proofs.Each.{Each, each-append}
 use Rattle.tables.proofs.Rows.{Used, table-rows-used}
-use Rattle.tables.proofs.Filled.{joined-append, rows-in-fill, fill-front, fill-behind}
+use Rattle.tables.proofs.Filled.{joined-append, rows-in-fill, fill-front, fill-behind, drop-replicate}
 use Rattle.keys.specs.declared.KeyRun.{KeyRun}
 use Rattle.keys.specs.Lookup.{keysIn}
-use Rattle.keys.specs.Runs.{stepRun}
 use Rattle.keys.proofs.Runs.{run-next}
+use Rattle.keys.proofs.MarkLaws.{marked-next}
 use Rattle.keys.proofs.Fills.{keys-append}
 use Rattle.legs.proofs.RowLaws.{block-lines}
 use Rattle.blocks.specs.declared.Checked.{Checked}
@@ -38,7 +37,7 @@ use Rattle.keys.specs.declared.BlockCounts.{BlockCounts}
 use Rattle.blocks.specs.Whole.{WholeBlock, BlockChecked}
 use Rattle.blocks.proofs.WholeLaws.{fresh-service}
 use Rattle.timetbls.specs.declared.Added.the-variants.{Kept, Faulty}
-use Rattle.timetbls.specs.Blocks.{StrayTold, BlockTested, Placeable, Addable, BlockAdded}
+use Rattle.timetbls.specs.Blocks.{StrayTold, BlockTested, Placeable, Remembered, Addable, BlockAdded}
 use Rattle.timetbls.proofs.GroupLaws.{front-open, front-closed, front-nil}
 use Rattle.timetbls.proofs.RowLaws.{rows-used, rows-count, block-keys}
 
@@ -84,15 +83,6 @@ tested b t counts co mo st fo service fresh r h s f k =
     }
 
 -- ROWS BEHIND ROWS
-drop-zeros : (a n : ℕ) → drop {A = ℕ} a (replicate n 0) ≡ replicate (n - a) 0
-drop-zeros zero n = rw sub-zero
-drop-zeros (suc a) zero =
-    let e : 0 - suc a ≡ 0 = omega arith in
-    rw e
-drop-zeros (suc a) (suc n) =
-    let e : suc n - suc a ≡ n - a = omega arith in
-    rw e (drop-zeros a n)
-
 -- what `write_block` leaves in a table of some rows
 pub fill-more : (n : ℕ) (rs qs : List Row) → Each (Used 7) rs
     → take (length rs * 7) (fill 7 n rs) ++ (joined qs ++ drop ((length rs + length qs) * 7) (fill 7 n rs)) ≡ fill 7 n (rs ++ qs)
@@ -100,19 +90,19 @@ unfolding fill
 fill-more n rs qs u =
     let d : (length rs + length qs) * 7 ≡ length rs * 7 + length qs * 7 = omega arith in
     let e : n - length rs * 7 - length qs * 7 ≡ n - (length rs + length qs) * 7 = omega arith in
-    rw (fill-front 7 n rs u, d, ← (drop-drop (length qs * 7) (length rs * 7) (fill 7 n rs)), fill-behind 7 n rs u, drop-zeros, e)
+    rw (fill-front 7 n rs u, d, ← (drop-drop (length qs * 7) (length rs * 7) (fill 7 n rs)), fill-behind 7 n rs u, drop-replicate, e)
     (rw (joined-append, length-append, append-assoc))
 
 -- THE BLOCK IS REFUSED, or kept
 module _ (b was : List ℕ) (counts : BlockCounts) (co mo st fo : List ℕ) (x : Checked) (y : BlockTested b was counts co mo st fo x) where
-  pub added-faulty : (w : Reason) (j : ℕ) → x ≡ Broken w j → (is : List ℕ) → BlockAdded b was is counts co mo st fo (Faulty w j)
-  added-faulty w j e is =
+  pub added-faulty : (w : Reason) (j : ℕ) → x ≡ Broken w j → (is marks : List ℕ) → BlockAdded b was is marks counts co mo st fo (Faulty w j)
+  added-faulty w j e is marks =
       record {
         says = λ c a o. rw e at (y .says c a o);
         grown = λ run row q. absurd (let z : _≡_ {A = ℕ} 0 1 = cc in omega arith);
       }
 
-  module _ (run : KeyRun) (row : ℕ) (a : Addable b was run row) (k n : ℕ) (e : x ≡ Whole k n) where
+  module _ (marks : List ℕ) (run : KeyRun) (row : ℕ) (a : Addable b was marks run row) (k n : ℕ) (e : x ≡ Whole k n) where
     whole : WholeBlock b k n
     whole = y .whole k n e
 
@@ -147,8 +137,8 @@ module _ (b was : List ℕ) (counts : BlockCounts) (co mo st fo : List ℕ) (x :
       now-keys : keysIn Timetbls is ≡ keysIn Timetbls was ++ (serviceOf (asBlock b) ∷ [])
       now-keys = ap (keysOf Timetbls) now-rows ∙ keys-append Timetbls (rowsIn Timetbls was) rows ∙ rw (block-keys (asBlock b) (a .one .opens) (a .one .single))
 
-      pub added-kept : (next : KeyRun) (to : ℕ) → next ≡ stepRun run (serviceOf (asBlock b)) → to ≡ row + k → BlockAdded b was is counts co mo st fo (Kept next to)
-      added-kept next to p q =
+      pub added-kept : (next : KeyRun) (to : ℕ) (more : List ℕ) → Remembered run marks (serviceOf (asBlock b)) more next → to ≡ row + k → BlockAdded b was is more counts co mo st fo (Kept next to)
+      added-kept next to more p q =
           record {
             says = λ c g o. rw e at (y .says c g o);
             grown =
@@ -157,8 +147,9 @@ module _ (b was : List ℕ) (counts : BlockCounts) (co mo st fo : List ℕ) (x :
                 record {
                   holding =
                       record {
+                        marked = rw (now-keys, p .marks) (marked-next marks (keysIn Timetbls was) (serviceOf (asBlock b)) (a .holding .marked));
                         filled = filled ∙ ap (λ (i : ℕ). fill 7 i (rowsIn Timetbls was ++ rows)) (sym m) ∙ ap (fill 7 (length is)) (sym now-rows);
-                        services = sym f ∙ p ∙ rw (now-keys, a .holding .services) (sym (run-next (keysIn Timetbls was) (serviceOf (asBlock b))));
+                        services = sym f ∙ p .next ∙ rw (now-keys, a .holding .services) (sym (run-next (keysIn Timetbls was) (serviceOf (asBlock b))));
                         rows = omega (arith, ap length now-rows, length-append (rowsIn Timetbls was) rows, count, a .holding .rows);
                       };
                   rows = now-rows;

@@ -24,6 +24,7 @@ use Rattle.tables.proofs.Filled.{rows-in-fill}
 use Rattle.keys.specs.declared.KeyRun.{KeyRun}
 use Rattle.keys.specs.Lookup.{keysIn}
 use Rattle.keys.specs.Runs.{noKeys}
+use Rattle.keys.specs.Marks.{Marked}
 use Rattle.keys.specs.declared.BlockCounts.{BlockCounts}
 use Rattle.keys.specs.Agree.{BlockKeys, BlockKeysAmong}
 use Rattle.keys.proofs.Runs.{run-rises}
@@ -36,19 +37,19 @@ use Rattle.timetbls.specs.Blocks.{part, Clean, NextBlock, StrayTold, Hol
 use Rattle.timetbls.proofs.RowLaws.{rows-count, key-skips, keys-nil}
 
 -- A LOOP OVER BLOCKS, at `at` and after `done` blocks: what is left says what all were to say, and leaves the rows that all were to leave
-pub record Adding (text : List ℕ) (from : ℕ) (counts : BlockCounts) (co mo st fo was is : List ℕ) (at row done : ℕ) (run : KeyRun) : Type 0 where
+pub record Adding (text : List ℕ) (from : ℕ) (counts : BlockCounts) (co mo st fo was is marks : List ℕ) (at row done : ℕ) (run : KeyRun) : Type 0 where
   pub inside : at ≤ length text
   pub few : done ≤ at
   pub kept : length is ≡ length was
   pub clean : Clean (lines (drop at text))
-  pub holding : Holding is run row
+  pub holding : Holding is marks run row
   pub room : (row + length (lines (drop at text))) * 7 ≤ length is
   pub rows : rowsIn Timetbls was ++ blocksRows (blocksOf (lines (drop from text))) ≡ rowsIn Timetbls is ++ blocksRows (blocksOf (lines (drop at text)))
   pub says : (c : Context) → BlockKeysAmong c counts co mo st fo → blocksVerdict c (keysIn Timetbls was) 1 (lines (drop from text)) ≡ blocksVerdict c (keysIn Timetbls is) (suc done) (lines (drop at text))
 
 module _ (text : List ℕ) (from : ℕ) (counts : BlockCounts) (co mo st fo was : List ℕ) where
-  pub adding-start : BlocksReady text from was → (run : KeyRun) → run ≡ noKeys → Adding text from counts co mo st fo was was from 1 0 run
-  adding-start p run e =
+  pub adding-start : (marks : List ℕ) → BlocksReady text from was marks → (run : KeyRun) → run ≡ noKeys → Adding text from counts co mo st fo was was marks from 1 0 run
+  adding-start marks p run e =
       record {
         inside = p .inside;
         few = omega arith;
@@ -60,13 +61,13 @@ module _ (text : List ℕ) (from : ℕ) (counts : BlockCounts) (co mo st fo was 
         says = λ c a. refl;
       }
 
-  module _ (is : List ℕ) (at row done : ℕ) (run : KeyRun) (k : Adding text from counts co mo st fo was is at row done run) where
+  module _ (is marks : List ℕ) (at row done : ℕ) (run : KeyRun) (k : Adding text from counts co mo st fo was is marks at row done run) where
     -- the next block
     module _ (next : ℕ) (n : NextBlock text at next) where
       abbrev b : List ℕ
       b = part text at next
 
-      pub addable : Addable b is run row
+      pub addable : Addable b is marks run row
       addable = record { one = n .one; holding = k .holding; room = omega (arith, k .room, n .sized) }
 
       step : (c : Context) → blocksVerdict c (keysIn Timetbls is) (suc done) (lines (drop at text))
@@ -74,7 +75,7 @@ module _ (text : List ℕ) (from : ℕ) (counts : BlockCounts) (co mo st fo was 
       unfolding scan
       step c = rw (n .blocks)
 
-      module _ (to : List ℕ) (r : Added) (y : BlockAdded b is to counts co mo st fo r) where
+      module _ (to more : List ℕ) (r : Added) (y : BlockAdded b is to more counts co mo st fo r) where
         pub adding-faulty : (w : Reason) (j : ℕ) → r ≡ Faulty w j → BlocksAdded text from counts co mo st fo was to (Stopped w (At Timetbls (done + 1) j))
         adding-faulty w j e =
             record {
@@ -84,7 +85,7 @@ module _ (text : List ℕ) (from : ℕ) (counts : BlockCounts) (co mo st fo was 
               rises = λ z. absurd (let q : _≡_ {A = ℕ} 0 1 = cc in omega arith);
             }
 
-        pub adding-next : (with : KeyRun) (behind : ℕ) → r ≡ Kept with behind → length to ≡ length is → Adding text from counts co mo st fo was to next behind (done + 1) with
+        pub adding-next : (with : KeyRun) (behind : ℕ) → r ≡ Kept with behind → length to ≡ length is → Adding text from counts co mo st fo was to more next behind (done + 1) with
         unfolding blocksRows
         adding-next with behind e m =
             let g = y .grown with behind e in
@@ -129,9 +130,9 @@ module _ (more : ℕ) (first : Row) (t : List ℕ) (b : Begun Timetbls more firs
   pub begun-keys : keysIn Timetbls t ≡ []
   begun-keys = ap (keysOf Timetbls) begun-rows ∙ key-skips first [] false (b .other) refl ∙ keys-nil
 
-  begun-holding : Holding t noKeys 1
+  begun-holding : (marks : List ℕ) → Marked marks [] → Holding t marks noKeys 1
   unfolding after
-  begun-holding = record { filled = rw begun-rows (b .holds); services = rw begun-keys; rows = ap length (sym begun-rows) }
+  begun-holding marks m = record { marked = rw begun-keys m; filled = rw begun-rows (b .holds); services = rw begun-keys; rows = ap length (sym begun-rows) }
 
 -- FOR CALLERS: what a first line leaves is what the reader of blocks asks
 pub after-first : (text t : List ℕ) (l : Line) (from : ℕ) → Split Timetbls text t l from → AfterFirst text from t
@@ -143,12 +144,12 @@ pub rows-read : (text t : List ℕ) (l : Line) (from : ℕ) → Split Timetbls t
 rows-read text t l from s co mo st fo is r y days = y .done days (firstRowOf Timetbls true l) (s .begun)
 
 module _ (text : List ℕ) (from : ℕ) (was : List ℕ) where
-  pub blocks-ready : AfterFirst text from was → (r : Test) → StrayTold (lines (drop from text)) r → r ≡ Passes → BlocksReady text from was
-  blocks-ready p r s e =
+  pub blocks-ready : AfterFirst text from was → (r : Test) → StrayTold (lines (drop from text)) r → r ≡ Passes → (marks : List ℕ) → Marked marks [] → BlocksReady text from was marks
+  blocks-ready p r s e marks m =
       record {
         inside = p .inside;
         clean = s .clean e;
-        holding = begun-holding (length (lines (drop from text))) (p .first) was (p .begun);
+        holding = begun-holding (length (lines (drop from text))) (p .first) was (p .begun) marks m;
         room = omega (arith, p .begun .room);
       }
 

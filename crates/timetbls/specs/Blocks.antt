@@ -3,7 +3,7 @@ use Prim.Native.Nat.{ℕ, _+_, _-_, _*_, _≤_, _<_}
 use mathlib.Core.Path.{_≡_}
 use mathlib.Core.List.{List, [], _∷_, _++_}
 use mathlib.Core.Bool.{true, false}
-use lib.ListN.{length, getD, take, drop}
+use lib.ListN.{length, getD, take, drop, set}
 use Rattle.iff.specs.Lists.{front, any}
 use Rattle.iff.specs.Refusals.{verdictAt, scan}
 use Rattle.iff.specs.Lines.{Line, lines, isHash}
@@ -20,7 +20,8 @@ use Rattle.iff_rules.specs.Load.{blockVerdict, serviceOf, strayVerdict, timetbl
 use Rattle.records.specs.Facts.{Legible}
 use Rattle.keys.specs.declared.KeyRun.{KeyRun}
 use Rattle.keys.specs.Lookup.{keysIn}
-use Rattle.keys.specs.Runs.{noKeys, runOf}
+use Rattle.keys.specs.Runs.{noKeys, runOf, stepRun}
+use Rattle.keys.specs.Marks.{slotOf, Marked}
 use Rattle.keys.specs.declared.BlockCounts.{BlockCounts}
 use Rattle.keys.specs.Agree.{BlockKeys, BlockKeysAmong}
 use Rattle.blocks.specs.declared.Checked.{Checked}
@@ -69,8 +70,9 @@ pub record StrayTold (ls : List Line) (r : Test) : Type 0 where
   pub says : verdictAt (At Timetbls 0 2) r ≡ strayVerdict Timetbls (front isHash ls)
   pub clean : r ≡ Passes → Clean ls
 
--- A TABLE THAT HOLDS some rows and nothing behind them, and what is remembered of it: its services, and how many rows it has
-pub record Holding (t : List ℕ) (run : KeyRun) (row : ℕ) : Type 0 where
+-- A TABLE THAT HOLDS some rows and nothing behind them, and what is remembered of it: its services, with their marks, and how many rows it has
+pub record Holding (t marks : List ℕ) (run : KeyRun) (row : ℕ) : Type 0 where
+  pub marked : Marked marks (keysIn Timetbls t)
   pub filled : t ≡ fill 7 (length t) (rowsIn Timetbls t)
   pub services : run ≡ runOf (keysIn Timetbls t)
   pub rows : row ≡ length (rowsIn Timetbls t)
@@ -80,33 +82,38 @@ pub record BlockTested (b t : List ℕ) (counts : BlockCounts) (co mo st fo : Li
   pub says : (c : Context) → BlockKeysAmong c counts co mo st fo → (o : ℕ) → checkedAt o r ≡ blockVerdict c (keysIn Timetbls t) o (asBlock b)
   pub whole : (k n : ℕ) → r ≡ Whole k n → WholeBlock b k n
 
+-- A SERVICE THAT IS REMEMBERED, with its mark
+pub record Remembered (run : KeyRun) (was : List ℕ) (service : ℕ) (is : List ℕ) (r : KeyRun) : Type 0 where
+  pub next : r ≡ stepRun run service
+  pub marks : is ≡ set was (slotOf service) 1
+
 -- A BLOCK THAT IS ADDED
-pub record Addable (b t : List ℕ) (run : KeyRun) (row : ℕ) : Type 0 where
+pub record Addable (b t marks : List ℕ) (run : KeyRun) (row : ℕ) : Type 0 where
   pub one : OneBlock b
-  pub holding : Holding t run row
+  pub holding : Holding t marks run row
   pub room : (row + linesIn (asBlock b)) * 7 ≤ length t
 
 abbrev pub addedAt : ℕ → Added → Verdict
 addedAt o (Kept run row) = Fine
 addedAt o (Faulty w j) = Fault w (At Timetbls o j)
 
-pub record Grown (b was is : List ℕ) (run : KeyRun) (row : ℕ) : Type 0 where
-  pub holding : Holding is run row
+pub record Grown (b was is marks : List ℕ) (run : KeyRun) (row : ℕ) : Type 0 where
+  pub holding : Holding is marks run row
   pub rows : rowsIn Timetbls is ≡ rowsIn Timetbls was ++ blockRows (asBlock b)
   pub seen : keysIn Timetbls is ≡ keysIn Timetbls was ++ (serviceOf (asBlock b) ∷ [])
 
-pub record BlockAdded (b was is : List ℕ) (counts : BlockCounts) (co mo st fo : List ℕ) (r : Added) : Type 0 where
+pub record BlockAdded (b was is marks : List ℕ) (counts : BlockCounts) (co mo st fo : List ℕ) (r : Added) : Type 0 where
   pub says : (c : Context) → BlockKeysAmong c counts co mo st fo → (o : ℕ) → addedAt o r ≡ blockVerdict c (keysIn Timetbls was) o (asBlock b)
-  pub grown : (run : KeyRun) (row : ℕ) → r ≡ Kept run row → Grown b was is run row
+  pub grown : (run : KeyRun) (row : ℕ) → r ≡ Kept run row → Grown b was is marks run row
 
 -- BLOCKS ONE AFTER THE OTHER, the first of which is block o, after blocks of some services
 abbrev pub blocksVerdict : Context → List ℕ → ℕ → List Line → Verdict
 blocksVerdict c seen o ls = scan (λ s i g. blockVerdict c s i g) (λ s g. s ++ (serviceOf g ∷ [])) seen o (blocksOf ls)
 
-pub record BlocksReady (text : List ℕ) (from : ℕ) (t : List ℕ) : Type 0 where
+pub record BlocksReady (text : List ℕ) (from : ℕ) (t marks : List ℕ) : Type 0 where
   pub inside : from ≤ length text
   pub clean : Clean (lines (drop from text))
-  pub holding : Holding t noKeys 1
+  pub holding : Holding t marks noKeys 1
   pub room : (1 + length (lines (drop from text))) * 7 ≤ length t
 
 pub record BlocksAdded (text : List ℕ) (from : ℕ) (counts : BlockCounts) (co mo st fo was is : List ℕ) (r : RowsRead) : Type 0 where

@@ -13,8 +13,9 @@ ghost use Rattle.iff.specs.Refusals.{fine};
 ghost use Rattle.keys.specs.Agree.{BlockKeys};
 ghost use Rattle.keys.specs.Lookup.{keysIn};
 ghost use Rattle.reading.specs.Reading.{Ready, FileRead};
-ghost use Rattle.keys.specs.Runs.{runOf, stepRun};
-ghost use Rattle.timetbls.specs.Blocks.{Readable, Placeable, Clean, NextBlock, StrayTold, BlockTested, Addable, BlockAdded, BlocksReady, BlocksAdded, AfterFirst, BlocksRead};
+ghost use Rattle.keys.specs.Runs.{runOf};
+ghost use Rattle.keys.specs.Marks.{slots, Marked};
+ghost use Rattle.timetbls.specs.Blocks.{Readable, Placeable, Clean, NextBlock, StrayTold, BlockTested, Remembered, Addable, BlockAdded, BlocksReady, BlocksAdded, AfterFirst, BlocksRead};
 
 // What became of a block: what is remembered of the services with it, and where the next block's rows go; or why it is refused, and at which line.
 pub enum Added {
@@ -91,6 +92,7 @@ fn next_head(text: &[u8], from: usize) -> usize
 fn test_block(
     block: &[u8],
     run: keys::KeyRun,
+    marks: &[u8],
     t: &[u64],
     counts: keys::BlockCounts,
     companies: &[u64],
@@ -98,19 +100,21 @@ fn test_block(
     stations: &[u64],
     footnotes: &[u64],
 ) -> blocks::Checked
-    requires { ⌜ (run ≡ runOf (keysIn Timetbls (now t))) × (isHash (asBlock (now block) .top) ≡ true) ⌝ }
+    requires { ⌜ (run ≡ runOf (keysIn Timetbls (now t))) × Marked (now marks) (keysIn Timetbls (now t)) × (isHash (asBlock (now block) .top) ≡ true) ⌝ }
     ensures { λ r. ⌜ BlockTested (now (block .entry)) (now (t .entry)) counts (now (companies .entry)) (now (modes .entry)) (now (stations .entry)) (now (footnotes .entry)) r ⌝ }
 {
     let service = blocks::service_of(block);
-    let fresh = keys::is_fresh(iff::File::Timetbls, run, t, service);
+    let fresh = keys::is_fresh_service(marks, run, t, service);
     blocks::check_block(block, fresh, counts, companies, modes, stations, footnotes)
 }
 
-// What is remembered of the services with this block's.
-fn after_block(run: keys::KeyRun, block: &[u8]) -> keys::KeyRun
-    ensures { λ r. ⌜ r ≡ stepRun run (serviceOf (asBlock (now (block .entry)))) ⌝ }
+// What is remembered of the services with this block's, which is marked.
+fn after_block(run: keys::KeyRun, marks: &mut [u8], block: &[u8]) -> keys::KeyRun
+    requires { ⌜ length (now marks) ≡ slots ⌝ }
+    ensures { λ r. ⌜ Remembered run (now (marks .entry)) (serviceOf (asBlock (now (block .entry)))) (now (marks .exit)) r ⌝ }
 {
     let service = blocks::service_of(block);
+    keys::mark(marks, service);
     keys::next_run(run, service)
 }
 
@@ -118,6 +122,7 @@ fn after_block(run: keys::KeyRun, block: &[u8]) -> keys::KeyRun
 fn add_block(
     block: &[u8],
     run: keys::KeyRun,
+    marks: &mut [u8],
     row: usize,
     t: &mut [u64],
     counts: keys::BlockCounts,
@@ -126,15 +131,25 @@ fn add_block(
     stations: &[u64],
     footnotes: &[u64],
 ) -> Added
-    requires { ⌜ Addable (now block) (now t) run row ⌝ }
-    ensures { λ r. ⌜ BlockAdded (now (block .entry)) (now (t .entry)) (now (t .exit)) counts (now (companies .entry)) (now (modes .entry)) (now (stations .entry)) (now (footnotes .entry)) r ⌝ }
+    requires { ⌜ Addable (now block) (now t) (now marks) run row ⌝ }
+    ensures { λ r. ⌜ BlockAdded (now (block .entry)) (now (t .entry)) (now (t .exit)) (now (marks .exit)) counts (now (companies .entry)) (now (modes .entry)) (now (stations .entry)) (now (footnotes .entry)) r ⌝ }
 {
-    match test_block(block, run, t, counts, companies, modes, stations, footnotes) {
+    match test_block(
+        block,
+        run,
+        marks,
+        t,
+        counts,
+        companies,
+        modes,
+        stations,
+        footnotes,
+    ) {
         blocks::Checked::Broken(why, line) => Added::Faulty(why, line),
         blocks::Checked::Whole(k, n) => {
             write_block(block, k, n, t, row);
             let next = row + k as usize;
-            Added::Kept(after_block(run, block), next)
+            Added::Kept(after_block(run, marks, block), next)
         }
     }
 }
@@ -143,6 +158,7 @@ fn add_block(
 fn add_blocks(
     text: &[u8],
     from: usize,
+    marks: &mut [u8],
     t: &mut [u64],
     counts: keys::BlockCounts,
     companies: &[u64],
@@ -150,7 +166,7 @@ fn add_blocks(
     stations: &[u64],
     footnotes: &[u64],
 ) -> reading::RowsRead
-    requires { ⌜ BlocksReady (now text) from (now t) ⌝ }
+    requires { ⌜ BlocksReady (now text) from (now t) (now marks) ⌝ }
     ensures { λ r. ⌜ BlocksAdded (now (text .entry)) from counts (now (companies .entry)) (now (modes .entry)) (now (stations .entry)) (now (footnotes .entry)) (now (t .entry)) (now (t .exit)) r ⌝ }
 {
     let mut at = from;
@@ -163,6 +179,7 @@ fn add_blocks(
         match add_block(
             &text[at..next],
             run,
+            marks,
             row,
             t,
             counts,
@@ -226,7 +243,18 @@ pub fn read_blocks(
         }
         iff::Test::Passes => {
             let counts = keys::count_for_blocks(companies, modes, stations, footnotes);
-            add_blocks(text, from, t, counts, companies, modes, stations, footnotes)
+            let mut marks = [0u8; 262144];
+            add_blocks(
+                text,
+                from,
+                &mut marks,
+                t,
+                counts,
+                companies,
+                modes,
+                stations,
+                footnotes,
+            )
         }
     }
 }

@@ -1,56 +1,63 @@
 -- `timetbls::add_block` meets its contract: each way out is one of the laws of one block. Assumes nothing.
-use mathlib.Core.Path.{refl}
+use mathlib.Core.Path.{refl, _∙_}
 use native.Mathlib.Omega.{arith}
 use borrow.Author.Needs.{needs}
 use Rattle.timetbls.proofs.AddLaws.{added-faulty, placeable, added-kept}
 use Rattle.timetbls.proofs.add_block.Statement.{statement}
 use Rattle.timetbls.proofs.add_block.Tie as tie
 
+-- the place before the first call, from the one after the test
+abbrev start : tie.After-test-block → tie.Start
+start y = y .before .before .before .before .before .before .before .before .before .before
+
 write-block-requires : tie.Need-write-block-requires
 write-block-requires c κs =
     let k = c .before .before in
     let y = k .before .before in
-    let s = y .before .before .before .before .before .before .before .before in
+    let s = start y in
     let a = s .args in
-    placeable (a .block .now) (a .t .now) (a .counts) (a .companies .now) (a .modes .now) (a .stations .now) (a .footnotes .now) _ (y .test-block .ensures) (a .run) (a .row) (s .pre) _ _ (k .k .given .1)
+    placeable (a .block .now) (a .t .now) (a .counts) (a .companies .now) (a .modes .now) (a .stations .now) (a .footnotes .now) _ (y .test-block .ensures) (a .marks .now) (a .run) (a .row) (s .pre) _ _ (k .k .given .1)
 
 add-next : tie.Need-add-next
 add-next c =
     let k = c .before .before .before .before .before in
     let y = k .before .before in
-    let s = y .before .before .before .before .before .before .before .before in
+    let s = start y in
     let a = s .args in
-    let p = placeable (a .block .now) (a .t .now) (a .counts) (a .companies .now) (a .modes .now) (a .stations .now) (a .footnotes .now) _ (y .test-block .ensures) (a .run) (a .row) (s .pre) _ _ (k .k .given .1) in
-    omega (arith, p .room)
+    let p = placeable (a .block .now) (a .t .now) (a .counts) (a .companies .now) (a .modes .now) (a .stations .now) (a .footnotes .now) _ (y .test-block .ensures) (a .marks .now) (a .run) (a .row) (s .pre) _ _ (k .k .given .1) in
+    omega (arith, p .room, s .good)
 
 returns : tie.Need-returns
 returns c =
     let y = c .before .before .before in
-    let s = y .before .before .before .before .before .before .before .before in
+    let s = start y in
     let a = s .args in
-    added-faulty (a .block .now) (a .t .now) (a .counts) (a .companies .now) (a .modes .now) (a .stations .now) (a .footnotes .now) _ (y .test-block .ensures) _ _ (c .before .why .given .1) _
+    added-faulty (a .block .now) (a .t .now) (a .counts) (a .companies .now) (a .modes .now) (a .stations .now) (a .footnotes .now) _ (y .test-block .ensures) _ _ (c .before .why .given .1) _ _
 
 returns-2 : tie.Need-returns-2
 returns-2 c =
-    let w = c .before .before .before in
+    let f = c .before .before in
+    let w = f .before .before .before .before in
     let k = w .before .before .before in
     let y = k .before .before in
-    let s = y .before .before .before .before .before .before .before .before in
+    let s = start y in
     let a = s .args in
-    added-kept (a .block .now) (a .t .now) (a .counts) (a .companies .now) (a .modes .now) (a .stations .now) (a .footnotes .now) _ (y .test-block .ensures) (a .run) (a .row) (s .pre) _ _ (k .k .given .1)
-    _ (w .write-block .kept .1 .1 .1 .0) (w .write-block .ensures) _ _ (c .after-block .ensures) refl
+    added-kept (a .block .now) (a .t .now) (a .counts) (a .companies .now) (a .modes .now) (a .stations .now) (a .footnotes .now) _ (y .test-block .ensures) (a .marks .now) (a .run) (a .row) (s .pre) _ _ (k .k .given .1)
+    _ (w .write-block .kept .1 .1 .1 .0) (w .write-block .ensures) _ _ _ (f .after-block .ensures) refl
 
 pub add-block-spec : {M : Type 1} → statement M
 add-block-spec =
     tie.close
     (tie.spec
-    (λ c κs. let s = c .before .before .before .before .before .before .before in (s .pre .holding .services, s .pre .one .opens))
+    (λ c κs. let s = c .before .before .before .before .before .before .before .before .before in (s .pre .holding .services, s .pre .holding .marked, s .pre .one .opens))
     (λ c. search needs)
     (λ c. search needs)
     write-block-requires
     add-next
-    (λ c κs. search needs)
+    (λ c κs. c .before .before .before .before .before .before .before .before .before .before .before .before .before .before .before .before .before .before .pre .holding .marked .wide)
+    (λ c. search needs)
     (λ c. search needs)
     returns
+    (λ c. search needs)
     (λ c. search needs)
     returns-2)
