@@ -320,7 +320,7 @@ same-length-11 c = at-settled c .settle .kept .1 .1 .1 .1 .1 .1 .1 .1 .1 .1 .1 .
 returns : tie.Need-returns
 returns c =
     let a = at-start c .args in
-    loaded (a .delivery .now) (a .company .now) (a .country .now) (a .trnsmode .now) (a .timezone .now) (a .stations .now) (a .footnote .now) (a .timetbls .now) (a .changes .now) (a .xfootnote .now) (a .xchanges .now) (a .t-delivery .now) (a .t-company .now) (a .t-country .now) (a .t-trnsmode .now) (a .t-timezone .now) (a .t-stations .now) (a .t-footnote .now) (a .t-timetbls .now) (a .t-changes .now) (a .t-xfootnote .now) (a .t-xchanges .now) _ _ _ _ _ _ _ _ _ _ _ _ _ _ _ _ _ _ _ _ _ _ _ _ _ _ _ _ _ _ _ _ _ _ _ _ _ _ _ _ _ _ _ _ _ _ _ _ _ _
+    loaded (a .delivery .now) (a .company .now) (a .country .now) (a .trnsmode .now) (a .timezone .now) (a .stations .now) (a .footnote .now) (a .timetbls .now) (a .changes .now) (a .xfootnote .now) (a .xchanges .now) (a .t-delivery .now) (a .t-company .now) (a .t-country .now) (a .t-trnsmode .now) (a .t-timezone .now) (a .t-stations .now) (a .t-footnote .now) (a .t-timetbls .now) (a .t-changes .now) (a .t-xfootnote .now) (a .t-xchanges .now) (at-cleared c .clear-all .last .0) (at-cleared c .clear-all .last .1 .0) (at-cleared c .clear-all .last .1 .1 .0) (at-cleared c .clear-all .last .1 .1 .1 .0) (at-cleared c .clear-all .last .1 .1 .1 .1 .0) (at-cleared c .clear-all .last .1 .1 .1 .1 .1 .0) (at-cleared c .clear-all .last .1 .1 .1 .1 .1 .1 .0) (at-cleared c .clear-all .last .1 .1 .1 .1 .1 .1 .1 .0) (at-cleared c .clear-all .last .1 .1 .1 .1 .1 .1 .1 .1 .0) (at-cleared c .clear-all .last .1 .1 .1 .1 .1 .1 .1 .1 .1 .0) (at-cleared c .clear-all .last .1 .1 .1 .1 .1 .1 .1 .1 .1 .1 .0) (at-delivery c .read-delivery .last .1 .1 .0) (at-company c .read-plain-file .last .1 .1 .1 .1 .1 .0) (at-country c .read-plain-file2 .last .1 .1 .1 .1 .1 .0) (at-trnsmode c .read-plain-file3 .last .1 .1 .1 .1 .1 .0) (at-timezone c .read-group-file .last .1 .1 .1 .1 .1 .0) (at-stations c .read-plain-file4 .last .1 .1 .1 .1 .1 .0) (at-footnote c .read-group-file2 .last .1 .1 .1 .1 .1 .0) (at-timetbls c .read-timetbls .last .1 .1 .1 .1 .0) (at-changes c .read-group-file3 .last .1 .1 .1 .1 .1 .0) (at-xfootnote c .read-group-file4 .last .1 .1 .1 .1 .1 .0) (at-xchanges c .read-group-file5 .last .1 .1 .1 .1 .1 .0) (at-settled c .settle .last .1 .0) (at-settled c .settle .last .1 .1 .0) (at-settled c .settle .last .1 .1 .1 .0) (at-settled c .settle .last .1 .1 .1 .1 .0) (at-settled c .settle .last .1 .1 .1 .1 .1 .0) (at-settled c .settle .last .1 .1 .1 .1 .1 .1 .0) (at-settled c .settle .last .1 .1 .1 .1 .1 .1 .1 .0) (at-settled c .settle .last .1 .1 .1 .1 .1 .1 .1 .1 .0) (at-settled c .settle .last .1 .1 .1 .1 .1 .1 .1 .1 .1 .0) (at-settled c .settle .last .1 .1 .1 .1 .1 .1 .1 .1 .1 .1 .0) (at-settled c .settle .last .1 .1 .1 .1 .1 .1 .1 .1 .1 .1 .1 .0) (at-sizes c .sizes .result) (at-delivery c .read-delivery .result) (at-company c .read-plain-file .result) (at-named c .company-test .result) (at-country c .read-plain-file2 .result) (at-trnsmode c .read-plain-file3 .result) (at-timezone c .read-group-file .result) (at-stations c .read-plain-file4 .result) (at-footnote c .read-group-file2 .result) (at-timetbls c .read-timetbls .result) (at-changes c .read-group-file3 .result) (at-xfootnote c .read-group-file4 .result) (at-xchanges c .read-group-file5 .result) _ (at-days c .days-of .result) (at-counted c .count-services .result) (c .answer-of .result)
     (record {
       sizes = at-sizes c .sizes .ensures;
       cleared = at-cleared c .clear-all .ensures;
