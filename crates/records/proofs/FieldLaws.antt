@@ -88,17 +88,17 @@ right-by Text s e = absurd (omega arith)
 right-by Unread s e = absurd (omega arith)
 
 -- THE TABLE OF FIELDS
-unfoldable pub entries : List Field → List Entry
-entries [] = []
-entries (f ∷ fs) = record { 0 = f .from; 1 = f .width; 2 = byteOf (f .class) } ∷ entries fs
+-- what a table tells of each field
+unfoldable pub told : (Field → ℕ) → List Field → List ℕ
+told g [] = []
+told g (f ∷ fs) = g f ∷ told g fs
 
 module _ (d : Field) where
-  entry-is : (z : Entry) (fs : List Field) (j : ℕ) → j < length fs
-      → getD (entries fs) j z ≡ record { 0 = getD fs j d .from; 1 = getD fs j d .width; 2 = byteOf (getD fs j d .class) }
-  unfolding entries
-  entry-is z [] j h = absurd (omega arith)
-  entry-is z (f ∷ fs) zero h = refl
-  entry-is z (f ∷ fs) (suc j) h = entry-is z fs j (omega arith)
+  told-at : (g : Field → ℕ) (z : ℕ) (fs : List Field) (j : ℕ) → j < length fs → getD (told g fs) j z ≡ g (getD fs j d)
+  unfolding told
+  told-at g z [] j h = absurd (omega arith)
+  told-at g z (f ∷ fs) zero h = refl
+  told-at g z (f ∷ fs) (suc j) h = told-at g z fs j (omega arith)
 
   -- a test of all entries
   pub each-at : (p : Field → Bool) (fs : List Field) → all p fs ≡ true → (j : ℕ) → j < length fs → p (getD fs j d) ≡ true
@@ -119,10 +119,16 @@ counted = refl
 from-one : (j : ℕ) → j < 51 → 1 ≤ fieldAt j .from
 from-one j h = leb-true 1 (fieldAt j .from) (each-at noField (λ f. leb 1 (f .from)) fields counted j (rw table-length h))
 
-pub entry-of : (z : Entry) (j : ℕ) → j < 51 → EntryOf j (getD (entries fields) j z)
-entry-of z j h =
-    rw (entry-is noField z fields j (rw table-length h))
-    (record { begins = refl; low = from-one j h; wide = refl; classed = refl })
+pub entry-of : (a b c j : ℕ) → j < 51 → EntryOf j (record { 0 = getD (told (λ f. f .from) fields) j a; 1 = getD (told (λ f. f .width) fields) j b; 2 = getD (told (λ f. byteOf (f .class)) fields) j c })
+entry-of a b c j h =
+    let l : j < length fields = rw table-length h in
+    let e = told-at noField (λ f. f .from) a fields j l in
+    record {
+      begins = e;
+      low = rw e (from-one j h);
+      wide = told-at noField (λ f. f .width) b fields j l;
+      classed = told-at noField (λ f. byteOf (f .class)) c fields j l;
+    }
 
 -- SOUND ENTRIES, one after the other
 pub is-sound : (room : ℕ) (f : Field) → sound room f ≡ true → Sound room f

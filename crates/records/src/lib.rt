@@ -44,81 +44,159 @@ lccccccc\
 lnnnnnnnn,nnnnnnnn,nn\
 laaa,cccc,aaa,cccc,nnn,nnnnn";
 
-// The fields that leave a word in a row, in the same order: the first column, the width, and the class: `n` a number, `s` a stop's number, `a` a
-// company or the wildcard, `c` a code.
-const FIELDS: [Entry; 51] = [
+// The fields that leave a word in a row, in the same order: the first column of each. Three tables of plain numbers, which a compiler keeps as they
+// are, where one of structs would be put together at every look.
+const FIRSTS: [usize; 51] = [
     // the first line: company, first day, last day, version
-    Entry(2, 3, b'n'),
-    Entry(6, 8, b'n'),
-    Entry(15, 8, b'n'),
-    Entry(24, 4, b'n'),
+    2,
+    6,
+    15,
+    24,
     // company: number, day turn
-    Entry(1, 3, b'n'),
-    Entry(47, 4, b'n'),
+    1,
+    47,
     // country: code, inland
-    Entry(1, 4, b'c'),
-    Entry(6, 1, b'n'),
+    1,
+    6,
     // mode
-    Entry(1, 4, b'c'),
+    1,
     // zone
-    Entry(2, 4, b'n'),
+    2,
     // zone period: hours, first day, last day
-    Entry(2, 2, b'n'),
-    Entry(5, 8, b'n'),
-    Entry(14, 8, b'n'),
+    2,
+    5,
+    14,
     // station: change flag, short name, change time, country, zone
-    Entry(1, 1, b'n'),
-    Entry(3, 7, b'c'),
-    Entry(11, 2, b'n'),
-    Entry(17, 4, b'c'),
-    Entry(22, 4, b'n'),
+    1,
+    3,
+    11,
+    17,
+    22,
     // footnote
-    Entry(2, 5, b'n'),
+    2,
     // service
-    Entry(2, 8, b'n'),
+    2,
     // train number: company, number, first stop, last stop
-    Entry(2, 3, b'n'),
-    Entry(6, 5, b'n'),
-    Entry(20, 3, b's'),
-    Entry(24, 3, b's'),
+    2,
+    6,
+    20,
+    24,
     // validity: footnote, first stop, last stop
-    Entry(2, 5, b'n'),
-    Entry(8, 3, b's'),
-    Entry(12, 3, b's'),
+    2,
+    8,
+    12,
     // transport: mode, first stop, last stop
-    Entry(2, 4, b'c'),
-    Entry(7, 3, b's'),
-    Entry(11, 3, b's'),
+    2,
+    7,
+    11,
     // attribute: code, first stop, last stop, footnote
-    Entry(2, 4, b'c'),
-    Entry(7, 3, b's'),
-    Entry(11, 3, b's'),
-    Entry(15, 5, b'n'),
+    2,
+    7,
+    11,
+    15,
     // stop: station, time
-    Entry(2, 7, b'c'),
-    Entry(10, 4, b'n'),
+    2,
+    10,
     // interval: station, arrival, departure
-    Entry(2, 7, b'c'),
-    Entry(10, 4, b'n'),
-    Entry(15, 4, b'n'),
+    2,
+    10,
+    15,
     // passed station
-    Entry(2, 7, b'c'),
+    2,
     // platform: footnote
-    Entry(14, 5, b'n'),
+    14,
     // change: station
-    Entry(2, 7, b'c'),
+    2,
     // change of a pair: from service, to service, possibility
-    Entry(2, 8, b'n'),
-    Entry(11, 8, b'n'),
-    Entry(20, 2, b'n'),
+    2,
+    11,
+    20,
     // exception: from company, from mode, to company, to mode, time, footnote
-    Entry(2, 3, b'a'),
-    Entry(6, 4, b'c'),
-    Entry(11, 3, b'a'),
-    Entry(15, 4, b'c'),
-    Entry(20, 3, b'n'),
-    Entry(24, 5, b'n'),
+    2,
+    6,
+    11,
+    15,
+    20,
+    24,
 ];
+
+// Their widths.
+const WIDTHS: [usize; 51] = [
+    // the first line: company, first day, last day, version
+    3,
+    8,
+    8,
+    4,
+    // company: number, day turn
+    3,
+    4,
+    // country: code, inland
+    4,
+    1,
+    // mode
+    4,
+    // zone
+    4,
+    // zone period: hours, first day, last day
+    2,
+    8,
+    8,
+    // station: change flag, short name, change time, country, zone
+    1,
+    7,
+    2,
+    4,
+    4,
+    // footnote
+    5,
+    // service
+    8,
+    // train number: company, number, first stop, last stop
+    3,
+    5,
+    3,
+    3,
+    // validity: footnote, first stop, last stop
+    5,
+    3,
+    3,
+    // transport: mode, first stop, last stop
+    4,
+    3,
+    3,
+    // attribute: code, first stop, last stop, footnote
+    4,
+    3,
+    3,
+    5,
+    // stop: station, time
+    7,
+    4,
+    // interval: station, arrival, departure
+    7,
+    4,
+    4,
+    // passed station
+    7,
+    // platform: footnote
+    5,
+    // change: station
+    7,
+    // change of a pair: from service, to service, possibility
+    8,
+    8,
+    2,
+    // exception: from company, from mode, to company, to mode, time, footnote
+    3,
+    4,
+    3,
+    4,
+    3,
+    5,
+];
+
+// Their classes: `n` a number, `s` a stop's number, `a` a company or the wildcard, `c` a code.
+const CLASSES: [u8; 51] = *b"nnnnnncncnnnnncncnnnnnssnsscsscssncncnncncnnnacacnn";
 
 // A record's part of the two tables: where its columns begin and end, and its fields. The vector's is empty.
 pub struct Spans(pub usize, pub usize, pub usize, pub usize);
@@ -159,7 +237,7 @@ fn entry_at(j: usize) -> Entry
     requires { ⌜ j < 51 ⌝ }
     ensures { λ r. ⌜ EntryOf j r ⌝ }
 {
-    FIELDS[j]
+    Entry(FIRSTS[j], WIDTHS[j], CLASSES[j])
 }
 
 // Records by letter.
