@@ -119,14 +119,15 @@ counted = refl
 from-one : (j : ℕ) → j < 51 → 1 ≤ fieldAt j .from
 from-one j h = leb-true 1 (fieldAt j .from) (each-at noField (λ f. leb 1 (f .from)) fields counted j (rw table-length h))
 
-pub entry-of : (a b c j : ℕ) → j < 51 → EntryOf j (record { 0 = getD (told (λ f. f .from) fields) j a; 1 = getD (told (λ f. f .width) fields) j b; 2 = getD (told (λ f. byteOf (f .class)) fields) j c })
-entry-of a b c j h =
+pub entry-of : (a b c j first width : ℕ) → j < 51 → first ≡ getD (told (λ f. f .from) fields) j a → width ≡ getD (told (λ f. f .width) fields) j b
+    → EntryOf j (record { 0 = first; 1 = width; 2 = getD (told (λ f. byteOf (f .class)) fields) j c })
+entry-of a b c j first width h p q =
     let l : j < length fields = rw table-length h in
-    let e = told-at noField (λ f. f .from) a fields j l in
+    let e = p ∙ told-at noField (λ f. f .from) a fields j l in
     record {
       begins = e;
       low = rw e (from-one j h);
-      wide = told-at noField (λ f. f .width) b fields j l;
+      wide = q ∙ told-at noField (λ f. f .width) b fields j l;
       classed = told-at noField (λ f. byteOf (f .class)) c fields j l;
     }
 

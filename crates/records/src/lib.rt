@@ -44,9 +44,9 @@ lccccccc\
 lnnnnnnnn,nnnnnnnn,nn\
 laaa,cccc,aaa,cccc,nnn,nnnnn";
 
-// The fields that leave a word in a row, in the same order: the first column of each. Three tables of plain numbers, which a compiler keeps as they
-// are, where one of structs would be put together at every look.
-const FIRSTS: [usize; 51] = [
+// The fields that leave a word in a row, in the same order: the first column of each. Three tables of bytes, since a constant is
+// put together at every look, and bytes go by eights.
+const FIRSTS: [u8; 51] = [
     // the first line: company, first day, last day, version
     2,
     6,
@@ -121,7 +121,7 @@ const FIRSTS: [usize; 51] = [
 ];
 
 // Their widths.
-const WIDTHS: [usize; 51] = [
+const WIDTHS: [u8; 51] = [
     // the first line: company, first day, last day, version
     3,
     8,
@@ -232,12 +232,19 @@ fn spans_of(record: iff::Record) -> Spans
     }
 }
 
-// Field `j` of the table.
+// A byte as a number of columns.
+fn size(b: u8) -> usize
+    ensures { λ r. ⌜ r ≡ b ⌝ }
+{
+    b as usize
+}
+
+// Field `j` of the tables.
 fn entry_at(j: usize) -> Entry
     requires { ⌜ j < 51 ⌝ }
     ensures { λ r. ⌜ EntryOf j r ⌝ }
 {
-    Entry(FIRSTS[j], WIDTHS[j], CLASSES[j])
+    Entry(size(FIRSTS[j]), size(WIDTHS[j]), CLASSES[j])
 }
 
 // Records by letter.

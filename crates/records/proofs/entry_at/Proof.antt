@@ -13,8 +13,8 @@ entry-at-spec =
     tie.close
     (tie.spec
     (λ c. search needs)
+    (λ c κs. search needs)
     (λ c. search needs)
+    (λ c κs. search needs)
     (λ c. search needs)
-    (λ c. search needs)
-    (λ c. search needs)
-    (λ c. entry-of 0 0 0 _ (c .pre)))
+    (λ c. entry-of 0 0 0 _ _ _ (c .before .before .pre) (c .before .size .ensures) (c .size2 .ensures)))
