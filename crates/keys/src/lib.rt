@@ -196,6 +196,42 @@ fn found_by_scan(file: iff::File, t: &[u64], used: usize, key: u64) -> bool
     false
 }
 
+// A search over the blocks of TIMETBLS, from each `#` to the next by the number of lines that it tells. A row is tested before it is called found here
+// too, so nothing rests on those numbers.
+fn found_by_blocks(t: &[u64], used: usize, key: u64) -> bool
+    ensures { λ r. ⌜ (r ≡ true → has key (keysAmong Timetbls used (now (t .entry))) ≡ true) ⌝ }
+{
+    let rows = rows_among(t, 7, used);
+    let mut i = 1;
+    while i < rows {
+        if tables::keyed_at(t, 7, i, HASH, 1, key) {
+            return true;
+        }
+        let lines = tables::word_at(t, 7, i, 2) as usize;
+        if lines == 0 {
+            return false;
+        }
+        if rows - i <= lines {
+            return false;
+        }
+        i += lines;
+    }
+    false
+}
+
+// The first `used` rows of TIMETBLS name this service: found by halves where services rise, else from block to block.
+fn names_service(t: &[u64], used: usize, key: u64) -> bool
+    ensures { λ r. ⌜ r ≡ has key (keysAmong Timetbls used (now (t .entry))) ⌝ }
+{
+    if found_by_halves(iff::File::Timetbls, t, used, key) {
+        return true;
+    }
+    if found_by_blocks(t, used, key) {
+        return true;
+    }
+    found_by_scan(iff::File::Timetbls, t, used, key)
+}
+
 // The first `used` rows of a file's table name this key. A delivery that is accepted names only what is there, so where keys rise no scan is made.
 pub fn names_among(file: iff::File, t: &[u64], used: usize, key: u64) -> bool
     ensures { λ r. ⌜ r ≡ has key (keysAmong file used (now (t .entry))) ⌝ }
@@ -400,8 +436,8 @@ pub fn met_station(row: &[u64], countries: &[u64], zones: &[u64]) -> bool
 fn met_pair(from: u64, to: u64, used: usize, services: &[u64]) -> bool
     ensures { λ r. ⌜ r ≡ (has from (keysAmong Timetbls used (now (services .entry))) && has to (keysAmong Timetbls used (now (services .entry)))) ⌝ }
 {
-    if names_among(iff::File::Timetbls, services, used, from) {
-        return names_among(iff::File::Timetbls, services, used, to);
+    if names_service(services, used, from) {
+        return names_service(services, used, to);
     }
     false
 }

@@ -1,68 +1,55 @@
 -- Laws of a loop over the lines of a block. Assumes nothing.
-use Prim.Native.Nat.{ℕ, _+_, _-_, _≤_, _<_}
+use Prim.Native.Nat.{ℕ, _+_, _-_, _≤_}
 use mathlib.Core.Path.{_≡_, ap, sym, _∙_}
 use mathlib.Core.List.{List}
 use mathlib.Core.Bool.{Bool, true, false, _&&_}
 use native.Mathlib.Omega.{arith}
 use lib.ListN.{length, getD, take, drop}
-use Rattle.iff.specs.declared.Eol.the-variants.{Unended}
 use Rattle.iff.specs.Lists.{all, total}
-use Rattle.iff.specs.Lines.{Line, lines, eolAt}
+use Rattle.iff.specs.Lines.{Line, lines}
 use Rattle.iff_rules.specs.Legs.{inRange}
-use Rattle.text.proofs.LineLaws.{EndedAt, after-unended, lines-end, rest-part}
+use Rattle.text.specs.declared.LineSpan.{LineSpan}
+use Rattle.text.specs.Spans.{LineAt}
+use Rattle.text.proofs.LineLaws.{lines-end}
 use Rattle.text.proofs.PictureLaws.{and-left, and-right}
 use Rattle.legs.specs.Sight.{legible, legibleBody, plainRow, lineInRange, times, lineTimes, linesTimes, Markable, AllMarkable}
-use Rattle.legs.specs.Tally.{Tally, LineAt}
-
-pub ended-at : (t : List ℕ) (at e : ℕ) → EndedAt t at e → LineAt t at e (e + 2)
-ended-at t at e l = record { low = l .low; high = omega (arith, l .high); on = omega (arith, l .low); room = l .high; ended = true; head = l .head }
-
-pub unended-at : (t : List ℕ) (at : ℕ) → at < length t → eolAt t at ≡ Unended → LineAt t at (length t) (length t)
-unended-at t at h q =
-    record {
-      low = omega arith;
-      high = omega arith;
-      on = h;
-      room = omega arith;
-      ended = false;
-      head = after-unended t at h q ∙ rw (rest-part t at, lines-end t (length t) (omega arith));
-    }
+use Rattle.legs.specs.Tally.{Tally}
 
 -- the line, and what it says of all that are left
-module _ (t : List ℕ) (at end next : ℕ) (l : LineAt t at end next) where
+module _ (t : List ℕ) (at : ℕ) (p : LineSpan) (l : LineAt t at p) where
   abbrev pub here : Line
-  here = record { body = take (end - at) (drop at t); ended = l .ended }
+  here = record { body = take (p .end - at) (drop at t); ended = p .ended }
 
-  pub all-head : (p : Line → Bool) → all p (lines (drop at t)) ≡ (p here && all p (lines (drop next t)))
+  pub all-head : (q : Line → Bool) → all q (lines (drop at t)) ≡ (q here && all q (lines (drop (p .next) t)))
   unfolding all
-  all-head p = rw (l .head)
+  all-head q = rw (l .head)
 
-  pub all-here : (p : Line → Bool) → all p (lines (drop at t)) ≡ true → p here ≡ true
-  all-here p e = and-left (p here) _ (sym (all-head p) ∙ e)
+  pub all-here : (q : Line → Bool) → all q (lines (drop at t)) ≡ true → q here ≡ true
+  all-here q e = and-left (q here) _ (sym (all-head q) ∙ e)
 
-  pub all-next : (p : Line → Bool) → all p (lines (drop at t)) ≡ true → all p (lines (drop next t)) ≡ true
-  all-next p e = and-right (p here) _ (sym (all-head p) ∙ e)
+  pub all-next : (q : Line → Bool) → all q (lines (drop at t)) ≡ true → all q (lines (drop (p .next) t)) ≡ true
+  all-next q e = and-right (q here) _ (sym (all-head q) ∙ e)
 
-  pub total-head : (f : Line → ℕ) → total f (lines (drop at t)) ≡ f here + total f (lines (drop next t))
+  pub total-head : (f : Line → ℕ) → total f (lines (drop at t)) ≡ f here + total f (lines (drop (p .next) t))
   unfolding total
   total-head f = rw (l .head)
 
-pub legible-here : (t : List ℕ) (at end next : ℕ) → LineAt t at end next → all legible (lines (drop at t)) ≡ true → legibleBody (take (end - at) (drop at t)) ≡ true
+pub legible-here : (t : List ℕ) (at : ℕ) (p : LineSpan) → LineAt t at p → all legible (lines (drop at t)) ≡ true → legibleBody (take (p .end - at) (drop at t)) ≡ true
 unfolding legible
-legible-here t at end next l e = all-here t at end next l legible e
+legible-here t at p l e = all-here t at p l legible e
 
 -- A LOOP THAT ASKS WHETHER ALL LINES ARE IN RANGE, at `at`
 abbrev pub Ranging : List ℕ → ℕ → ℕ → Type 0
 Ranging t n at = (at ≤ length t) × (all legible (lines (drop at t)) ≡ true) × (all (lineInRange n) (lines t) ≡ all (lineInRange n) (lines (drop at t)))
 
-module _ (t : List ℕ) (n at end next : ℕ) (l : LineAt t at end next) (i : Ranging t n at) where
-  pub ranging-not : inRange n (plainRow n (take (end - at) (drop at t))) ≡ false → false ≡ all (lineInRange n) (lines t)
+module _ (t : List ℕ) (n at : ℕ) (p : LineSpan) (l : LineAt t at p) (i : Ranging t n at) where
+  pub ranging-not : inRange n (plainRow n (take (p .end - at) (drop at t))) ≡ false → false ≡ all (lineInRange n) (lines t)
   unfolding lineInRange
-  ranging-not e = sym (i .2 ∙ all-head t at end next l (lineInRange n) ∙ rw e)
+  ranging-not e = sym (i .2 ∙ all-head t at p l (lineInRange n) ∙ rw e)
 
-  pub ranging-next : inRange n (plainRow n (take (end - at) (drop at t))) ≡ true → Ranging t n next
+  pub ranging-next : inRange n (plainRow n (take (p .end - at) (drop at t))) ≡ true → Ranging t n (p .next)
   unfolding lineInRange
-  ranging-next e = (l .room, all-next t at end next l legible (i .1), i .2 ∙ all-head t at end next l (lineInRange n) ∙ rw e)
+  ranging-next e = (l .high, all-next t at p l legible (i .1), i .2 ∙ all-head t at p l (lineInRange n) ∙ rw e)
 
 pub ranging-all : (t : List ℕ) (n at : ℕ) → length t ≤ at → Ranging t n at → true ≡ all (lineInRange n) (lines t)
 unfolding all
@@ -75,14 +62,14 @@ module _ (t was is : List ℕ) (n x at : ℕ) where
       (at ≤ length t) × (length is ≡ length was) × (all legible (lines (drop at t)) ≡ true) × (all (lineInRange n) (lines (drop at t)) ≡ true)
       × ((k : ℕ) → getD is k 0 + linesTimes n x (lines (drop at t)) k ≡ getD was k 0 + linesTimes n x (lines t) k)
 
-  pub markable : (end next : ℕ) → LineAt t at end next → AllMarkable t n x (length was) → MarkingAll → Markable (take (end - at) (drop at t)) n x (length is)
+  pub markable : (p : LineSpan) → LineAt t at p → AllMarkable t n x (length was) → MarkingAll → Markable (take (p .end - at) (drop at t)) n x (length is)
   unfolding lineInRange
-  markable end next l a m =
+  markable p l a m =
       record {
         kind = a .kind;
         fit = omega (arith, a .fit, m .1);
-        legibly = legible-here t at end next l (m .2);
-        within = all-here t at end next l (lineInRange n) (m .3);
+        legibly = legible-here t at p l (m .2);
+        within = all-here t at p l (lineInRange n) (m .3);
       }
 
   pub marked-lines : length t ≤ at → MarkingAll → Tally 1 n (linesTimes n x (lines t)) was is true
@@ -93,8 +80,8 @@ module _ (t was is : List ℕ) (n x at : ℕ) where
         no = λ q. absurd (let z : _≡_ {A = ℕ} 0 1 = cc in omega arith);
       }
 
-module _ (t was mid is : List ℕ) (n x at end next : ℕ) (r : Bool) (l : LineAt t at end next) (m : MarkingAll t was mid n x at)
-    (y : Tally 1 n (λ k. times x k (plainRow n (take (end - at) (drop at t)))) mid is r) where
+module _ (t was mid is : List ℕ) (n x at : ℕ) (p : LineSpan) (r : Bool) (l : LineAt t at p) (m : MarkingAll t was mid n x at)
+    (y : Tally 1 n (λ k. times x k (plainRow n (take (p .end - at) (drop at t)))) mid is r) where
   pub marked-here : r ≡ false → Tally 1 n (linesTimes n x (lines t)) was is false
   marked-here e =
       let d = y .no e in
@@ -104,16 +91,16 @@ module _ (t was mid is : List ℕ) (n x at end next : ℕ) (r : Bool) (l : LineA
           leg = d .leg;
           from = d .from;
           to = d .to;
-          twice = omega (arith, d .twice, m .4 (d .leg), total-head t at end next l (lineTimes n x (d .leg)));
+          twice = omega (arith, d .twice, m .4 (d .leg), total-head t at p l (lineTimes n x (d .leg)));
         };
       }
 
-  pub marked-next : r ≡ true → length is ≡ length mid → MarkingAll t was is n x next
+  pub marked-next : r ≡ true → length is ≡ length mid → MarkingAll t was is n x (p .next)
   marked-next e s = (
-    l .room,
+    l .high,
     s ∙ m .1,
-    all-next t at end next l legible (m .2),
-    all-next t at end next l (lineInRange n) (m .3),
+    all-next t at p l legible (m .2),
+    all-next t at p l (lineInRange n) (m .3),
     λ k.
-        omega (arith, y .yes e k, m .4 k, total-head t at end next l (lineTimes n x k)),
+        omega (arith, y .yes e k, m .4 k, total-head t at p l (lineTimes n x k)),
   )

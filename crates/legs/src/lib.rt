@@ -11,35 +11,12 @@ ghost use Rattle.iff_rules.specs.Legs.{legs, inRange, ranged, rangedLoosely, on
 ghost use Rattle.iff_rules.specs.Rows.{blockRows, asBlock};
 ghost use lib.Dec.{leb, ltb};
 ghost use Rattle.legs.specs.Sight.{LegibleBlock, legible, legibleBody, plainRow, lineInRange, linesTimes, times, onceTo, SpanOf, Markable, AllMarkable};
-ghost use Rattle.legs.specs.Tally.{Tally, LineAt};
+ghost use Rattle.legs.specs.Tally.{Tally};
 
 // The stops that a record goes from and to.
 struct Span {
     first: u64,
     last: u64,
-}
-
-// Where a line ends, and where the next begins.
-struct Bounds {
-    end: usize,
-    next: usize,
-}
-
-// The line at `at`.
-fn line_at(text: &[u8], at: usize) -> Bounds
-    requires { ⌜ at < length (now text) ⌝ }
-    ensures { λ r. ⌜ LineAt (now (text .entry)) at (r .end) (r .next) ⌝ }
-{
-    match text::line_end(text, at) {
-        iff::Eol::Ended(e) => Bounds {
-            end: e,
-            next: e + 2,
-        },
-        iff::Eol::Unended => Bounds {
-            end: text.len(),
-            next: text.len(),
-        },
-    }
 }
 
 // Marks the legs from `first` up to `last`, unless one is marked already.
@@ -153,7 +130,7 @@ fn are_in_range(block: &[u8], n: u64) -> bool
 {
     let mut at: usize = 0;
     while at < block.len() {
-        let line = line_at(block, at);
+        let line = text::line_at(block, at);
         let end = line.end;
         if !is_in_range(&block[at..end], n) {
             return false;
@@ -182,7 +159,7 @@ fn mark_lines(block: &[u8], n: u64, kind: u8, marks: &mut [u8]) -> bool
 {
     let mut at: usize = 0;
     while at < block.len() {
-        let line = line_at(block, at);
+        let line = text::line_at(block, at);
         let end = line.end;
         if !mark_line(&block[at..end], n, kind, marks) {
             return false;

@@ -17,20 +17,20 @@ abbrev μ-loop : tie.MeasureT-loop
 is-in-range-requires : tie.Need-is-in-range-requires Inv-loop μ-loop
 is-in-range-requires c κs =
     let t = c .before .before .before in
-    legible-here (t .before .before .args .block .now) (t .loop .at) _ _ (c .before .line-at .ensures) (t .loop .inv .1)
+    legible-here (t .before .before .args .block .now) (t .loop .at) _ (c .before .line-at .ensures) (t .loop .inv .1)
 
 returns : tie.Need-returns Inv-loop μ-loop
 returns c =
     let l = c .before .before .before in
     let t = l .before .before in
-    ranging-not (t .before .before .args .block .now) (t .before .before .args .n) (t .loop .at) _ _ (l .line-at .ensures) (t .loop .inv)
+    ranging-not (t .before .before .args .block .now) (t .before .before .args .n) (t .loop .at) _ (l .line-at .ensures) (t .loop .inv)
     (sym (c .before .is-in-range .ensures) ∙ not-true _ (c .if1 .taken))
 
 loop-again : tie.Need-loop-again Inv-loop μ-loop
 loop-again c =
     let l = c .before .before .before in
     let t = l .before .before in
-    ranging-next (t .before .before .args .block .now) (t .before .before .args .n) (t .loop .at) _ _ (l .line-at .ensures) (t .loop .inv)
+    ranging-next (t .before .before .args .block .now) (t .before .before .args .n) (t .loop .at) _ (l .line-at .ensures) (t .loop .inv)
     (sym (c .before .is-in-range .ensures) ∙ not-false _ (c .if1 .left))
 
 returns-2 : tie.Need-returns-2 Inv-loop μ-loop

@@ -22,7 +22,7 @@ mark-line-requires c κs =
     let l = c .before .before in
     let t = l .before .before in
     let s = t .before .before .before in
-    markable (s .args .block .now) (s .args .marks .now) (t .loop .marks) (s .args .n) (s .args .kind) (t .loop .at) _ _ (l .line-at .ensures) (s .pre) (t .loop .inv)
+    markable (s .args .block .now) (s .args .marks .now) (t .loop .marks) (s .args .n) (s .args .kind) (t .loop .at) _ (l .line-at .ensures) (s .pre) (t .loop .inv)
 
 returns : tie.Need-returns Inv-loop μ-loop
 returns c =
@@ -30,7 +30,7 @@ returns c =
     let l = m .before .before .before in
     let t = l .before .before in
     let s = t .before .before .before in
-    marked-here (s .args .block .now) (s .args .marks .now) (t .loop .marks) (m .mark-line .last .1 .1 .1 .0) (s .args .n) (s .args .kind) (t .loop .at) _ _ _ (l .line-at .ensures) (t .loop .inv)
+    marked-here (s .args .block .now) (s .args .marks .now) (t .loop .marks) (m .mark-line .last .1 .1 .1 .0) (s .args .n) (s .args .kind) (t .loop .at) _ _ (l .line-at .ensures) (t .loop .inv)
     (m .mark-line .ensures) (not-true _ (c .if1 .taken))
 
 loop-again : tie.Need-loop-again Inv-loop μ-loop
@@ -39,7 +39,7 @@ loop-again c =
     let l = m .before .before .before in
     let t = l .before .before in
     let s = t .before .before .before in
-    marked-next (s .args .block .now) (s .args .marks .now) (t .loop .marks) (m .mark-line .last .1 .1 .1 .0) (s .args .n) (s .args .kind) (t .loop .at) _ _ _ (l .line-at .ensures) (t .loop .inv)
+    marked-next (s .args .block .now) (s .args .marks .now) (t .loop .marks) (m .mark-line .last .1 .1 .1 .0) (s .args .n) (s .args .kind) (t .loop .at) _ _ (l .line-at .ensures) (t .loop .inv)
     (m .mark-line .ensures) (not-false _ (c .if1 .left)) (m .mark-line .kept .1 .1 .1 .0)
 
 returns-2 : tie.Need-returns-2 Inv-loop μ-loop

@@ -1,0 +1,46 @@
+-- `found_by_blocks` meets its contract: the row that is found was tested, and is one of the first rows. Assumes nothing.
+use Prim.Native.Nat.{_-_, _<_}
+use mathlib.Core.Path.{refl}
+use mathlib.Core.Bool.{false≢true}
+use native.Mathlib.Omega.{arith}
+use borrow.Author.Needs.{needs}
+use Rattle.iff.specs.declared.File.the-variants.{Timetbls}
+use Rattle.keys.proofs.Among.{row-among, hit-among}
+use Rattle.keys.proofs.found_by_blocks.Statement.{statement}
+use Rattle.keys.proofs.found_by_blocks.Tie as tie
+
+abbrev Inv-loop : tie.InvT-loop
+Inv-loop t used key rows i₀ i = 0 < i
+
+abbrev μ-loop : tie.MeasureT-loop
+μ-loop t used key rows i₀ i = rows - i
+
+keyed-at-requires : tie.Need-keyed-at-requires Inv-loop μ-loop
+keyed-at-requires c κs = (omega arith, row-among _ (c .before .before .before .before .args .used) _ _ (c .before .before .rows-among .ensures) _ (c .loop-test .taken))
+
+word-at-requires : tie.Need-word-at-requires Inv-loop μ-loop
+word-at-requires c κs = (omega arith, row-among _ (c .before .before .before .before .before .before .args .used) _ _ (c .before .before .before .before .rows-among .ensures) _ (c .before .before .loop-test .taken))
+
+returns : tie.Need-returns Inv-loop μ-loop
+returns c e =
+    let a = c .before .before .before .before .before .before .args in
+    hit-among Timetbls 7 35 1 refl refl refl (a .t .now) (a .used) (a .key) _ (c .before .before .before .before .rows-among .ensures) _ (c .before .before .loop-test .taken) _ (c .before .keyed-at .ensures) (c .if1 .taken)
+
+pub found-by-blocks-spec : {M : Type 1} → statement M
+found-by-blocks-spec =
+    tie.close
+    (tie.spec
+    Inv-loop
+    μ-loop
+    (λ c κs. omega arith)
+    (λ c. omega arith)
+    keyed-at-requires
+    returns
+    word-at-requires
+    (λ c e. absurd (false≢true e))
+    (λ c. search needs)
+    (λ c e. absurd (false≢true e))
+    (λ c. search needs)
+    (λ c. omega arith)
+    (λ c. omega arith)
+    (λ c e. absurd (false≢true e)))

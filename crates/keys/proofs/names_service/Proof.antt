@@ -1,0 +1,14 @@
+-- `names_service` meets its contract: what either search finds is there, and the scan says the rest. Assumes nothing.
+use mathlib.Core.Path.{sym}
+use borrow.Author.Needs.{needs}
+use Rattle.keys.proofs.names_service.Statement.{statement}
+use Rattle.keys.proofs.names_service.Tie as tie
+
+returns : tie.Need-returns
+returns c = sym (c .before .found-by-halves .ensures (c .if1 .taken))
+
+returns-2 : tie.Need-returns-2
+returns-2 c = sym (c .before .found-by-blocks .ensures (c .if2 .taken))
+
+pub names-service-spec : {M : Type 1} → statement M
+names-service-spec = tie.close (tie.spec (λ c κs. search needs) returns (λ c κs. search needs) returns-2 (λ c κs. search needs) (λ c. c .found-by-scan .ensures))
