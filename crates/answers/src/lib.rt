@@ -1,12 +1,30 @@
-// Answers as the paper's numbers and values, for callers to whom an enum cannot be handed.
+// A verdict as an answer, and an answer as the paper's numbers and values, for callers to whom an enum cannot be handed.
 use iff::Answer;
 use iff::File;
 use iff::Place;
 use iff::Reason;
+use iff::Verdict;
 ghost use mathlib.Core.Path.{_≡_};
 ghost use Rattle.iff.specs.Files.{fileNumber, fileAt};
-ghost use Rattle.iff.specs.Refusals.{number, ordinal, lineAt};
+ghost use Rattle.iff.specs.Refusals.{number, ordinal, lineAt, answer as answerTo};
 ghost use Rattle.answers.specs.Numbers.{answerWords};
+
+// A `usize` as a `u64`.
+fn wide(x: usize) -> u64
+    ensures { λ r. ⌜ r ≡ x ⌝ }
+{
+    x as u64
+}
+
+// What a load or an amendment answers.
+pub fn answer_of(v: Verdict, days: usize, services: u64) -> Answer
+    ensures { λ r. ⌜ r ≡ answerTo v days services ⌝ }
+{
+    match v {
+        Verdict::Fine => Answer::Accepted(wide(days), services),
+        Verdict::Fault(r, p) => Answer::Refused(r, p),
+    }
+}
 
 pub fn number_of(reason: Reason) -> u64
     ensures { λ r. ⌜ r ≡ number reason ⌝ }

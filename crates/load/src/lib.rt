@@ -204,5 +204,5 @@ pub fn load(
         t_xfootnote,
         t_xchanges,
     );
-    steps::answer_of(v12, days, services)
+    answers::answer_of(v12, days, services)
 }

@@ -1,5 +1,4 @@
-// The steps of a load beside the readers of its files: tables cleared, what is read out of them between two files, and the answer.
-use iff::Answer;
+// The steps of a load beside the readers of its files: tables cleared, and what is read out of them between two files.
 use iff::File;
 use iff::Place;
 use iff::Reason;
@@ -9,7 +8,7 @@ ghost use mathlib.Core.Bool.{cond};
 ghost use lib.Dec.{eqb};
 ghost use lib.ListN.{length, getD};
 ghost use Rattle.iff.specs.Bytes.{hash};
-ghost use Rattle.iff.specs.Refusals.{orElse, answer};
+ghost use Rattle.iff.specs.Refusals.{orElse};
 ghost use Rattle.iff.specs.Days.{span as spanOf};
 ghost use Rattle.iff.specs.declared.File.the-variants.{Timetbls};
 ghost use Rattle.keys.specs.Lookup.{keysIn};
@@ -156,20 +155,4 @@ pub fn first_body<'a>(text: &'a [u8]) -> &'a [u8]
     let s = text::line_at(text, 0);
     let end = s.end;
     &text[0..end]
-}
-
-// A `usize` as a `u64`.
-fn wide(x: usize) -> u64
-    ensures { λ r. ⌜ r ≡ x ⌝ }
-{
-    x as u64
-}
-
-pub fn answer_of(v: Verdict, days: usize, services: u64) -> Answer
-    ensures { λ r. ⌜ r ≡ answer v days services ⌝ }
-{
-    match v {
-        Verdict::Fine => Answer::Accepted(wide(days), services),
-        Verdict::Fault(r, p) => Answer::Refused(r, p),
-    }
 }

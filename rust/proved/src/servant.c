@@ -88,43 +88,52 @@ void *memcpy(void *restrict to, const void *restrict from, u64 count)
 }
 
 // Memory that grows with the deliveries.
-static u8 *held;
-static u64 held_bytes;
+struct held {
+    u8 *at;
+    u64 bytes;
+};
 
-static u8 *room_for(u64 bytes)
+static struct held delivery, zeros;
+
+static u8 *room_for(struct held *held, u64 bytes)
 {
-    if (bytes > held_bytes) {
-        if (held_bytes > 0)
-            system_call(MUNMAP, (long)held, (long)held_bytes, 0, 0, 0, 0);
+    if (bytes > held->bytes) {
+        if (held->bytes > 0)
+            system_call(MUNMAP, (long)held->at, (long)held->bytes, 0, 0, 0, 0);
         long got = system_call(MMAP, 0, (long)bytes, READ_AND_WRITE, PRIVATE_AND_OF_NO_FILE, -1, 0);
         if (got < 0 && got > -4096)
             leave(2);
-        held = (u8 *)got;
-        held_bytes = bytes;
+        held->at = (u8 *)got;
+        held->bytes = bytes;
     }
-    return held;
+    return held->at;
 }
 
 static void load_one(void)
 {
-    u64 n[FILES], w[FILES], words = 0, bytes = 0, answer[ANSWER];
+    u64 n[FILES], blank[FILES], w[FILES], words = 0, bytes = 0, blanks = 0, answer[ANSWER];
     u64 *t[FILES];
     const u8 *f[FILES];
     take(n, sizeof n);
+    take(blank, sizeof blank);
     take(w, sizeof w);
     for (int k = 0; k < FILES; k++) {
         words += w[k];
-        bytes += n[k];
+        bytes += blank[k] ? 0 : n[k];
+        if (blank[k] && n[k] > blanks)
+            blanks = n[k];
     }
-    u8 *tables = room_for(words * sizeof(u64) + bytes + 1);
+    // A load writes to no file, so zeros stay zeros, and one stretch of them serves all files.
+    const u8 *blank_text = room_for(&zeros, blanks);
+    u8 *tables = room_for(&delivery, words * sizeof(u64) + bytes + 1);
     u8 *next = tables;
     for (int k = 0; k < FILES; k++) {
         t[k] = (u64 *)next;
         next += w[k] * sizeof(u64);
     }
     for (int k = 0; k < FILES; k++) {
-        f[k] = next;
-        next += n[k];
+        f[k] = blank[k] ? blank_text : next;
+        next += blank[k] ? 0 : n[k];
     }
     take(tables, words * sizeof(u64) + bytes);
     calyxcabin_load(
