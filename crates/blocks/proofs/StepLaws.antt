@@ -26,8 +26,8 @@ use Rattle.iff_rules.specs.Meaning.{meaning}
 use Rattle.iff_rules.specs.References.{met, metInBlock}
 use Rattle.iff_rules.specs.Legs.{one}
 use Rattle.iff_rules.specs.Load.{blockMoves}
-use Rattle.keys.specs.declared.BlockCounts.{BlockCounts}
-use Rattle.keys.specs.Agree.{BlockKeysAmong}
+use Rattle.references.specs.declared.BlockCounts.{BlockCounts}
+use Rattle.references.specs.Agree.{BlockKeysAmong}
 use Rattle.records.specs.Facts.{Legible}
 use Rattle.records.proofs.LineLaws.{layout-passes as passes-legible}
 use Rattle.records.proofs.FileLaws.{row-room}

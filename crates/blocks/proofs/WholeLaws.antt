@@ -21,8 +21,8 @@ use Rattle.iff_rules.specs.Rows.{rowOf, blockRows, asBlock, Context}
 use Rattle.iff_rules.specs.Unique.{freshKey}
 use Rattle.iff_rules.specs.Legs.{legs}
 use Rattle.iff_rules.specs.Load.{blockTest, blockStart, blockNext, blockVerdict, serviceOf}
-use Rattle.keys.specs.declared.BlockCounts.{BlockCounts}
-use Rattle.keys.specs.Agree.{BlockKeysAmong}
+use Rattle.references.specs.declared.BlockCounts.{BlockCounts}
+use Rattle.references.specs.Agree.{BlockKeysAmong}
 use Rattle.text.proofs.LineLaws.{lines-step}
 use Rattle.records.specs.Facts.{Legible}
 use Rattle.records.proofs.FileLaws.{block-room, row-tag}

@@ -18,7 +18,7 @@ use Rattle.iff_rules.specs.Meaning.{meaning}
 use Rattle.iff_rules.specs.References.{met}
 use Rattle.iff_rules.specs.Load.{blockNext}
 use Rattle.keys.specs.Lookup.{keysAmong}
-use Rattle.keys.specs.declared.BlockCounts.{BlockCounts}
+use Rattle.references.specs.declared.BlockCounts.{BlockCounts}
 use Rattle.blocks.specs.declared.Step.{Step}
 use Rattle.blocks.specs.declared.Step.the-variants.{Go, No}
 

@@ -20,8 +20,8 @@ use Rattle.iff_rules.specs.Meaning.{mostStops}
 use Rattle.iff_rules.specs.Unique.{freshKey}
 use Rattle.iff_rules.specs.Legs.{legs}
 use Rattle.iff_rules.specs.Load.{blockStart, blockNext, blockVerdict}
-use Rattle.keys.specs.declared.BlockCounts.{BlockCounts}
-use Rattle.keys.specs.Agree.{BlockKeysAmong}
+use Rattle.references.specs.declared.BlockCounts.{BlockCounts}
+use Rattle.references.specs.Agree.{BlockKeysAmong}
 use Rattle.blocks.specs.Lines.{legible}
 use Rattle.blocks.specs.declared.Checked.{Checked}
 use Rattle.blocks.specs.declared.Checked.the-variants.{Whole, Broken}

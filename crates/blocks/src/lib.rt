@@ -146,7 +146,7 @@ fn row_test(
     row: &[u64],
     stops: u64,
     fresh: bool,
-    counts: keys::BlockCounts,
+    counts: references::BlockCounts,
     companies: &[u64],
     modes: &[u64],
     stations: &[u64],
@@ -161,7 +161,7 @@ fn row_test(
     if !is_new(row[0], fresh) {
         return iff::Test::Fails(iff::Reason::Duplicate);
     }
-    if !keys::met_in_block(row, counts, companies, modes, stations, footnotes) {
+    if !references::met_in_block(row, counts, companies, modes, stations, footnotes) {
         return iff::Test::Fails(iff::Reason::Reference);
     }
     iff::Test::Passes
@@ -174,7 +174,7 @@ fn record_test(
     ended: bool,
     stops: u64,
     fresh: bool,
-    counts: keys::BlockCounts,
+    counts: references::BlockCounts,
     companies: &[u64],
     modes: &[u64],
     stations: &[u64],
@@ -226,7 +226,7 @@ fn block_line(
     ended: bool,
     st: iff::InBlock,
     fresh: bool,
-    counts: keys::BlockCounts,
+    counts: references::BlockCounts,
     companies: &[u64],
     modes: &[u64],
     stations: &[u64],
@@ -278,7 +278,7 @@ fn line_at(
     at: usize,
     st: iff::InBlock,
     fresh: bool,
-    counts: keys::BlockCounts,
+    counts: references::BlockCounts,
     companies: &[u64],
     modes: &[u64],
     stations: &[u64],
@@ -333,7 +333,7 @@ fn read_stops(
     before: u64,
     start: iff::InBlock,
     fresh: bool,
-    counts: keys::BlockCounts,
+    counts: references::BlockCounts,
     companies: &[u64],
     modes: &[u64],
     stations: &[u64],
@@ -392,7 +392,7 @@ fn read_platform(
     before: u64,
     st: iff::InBlock,
     fresh: bool,
-    counts: keys::BlockCounts,
+    counts: references::BlockCounts,
     companies: &[u64],
     modes: &[u64],
     stations: &[u64],
@@ -451,7 +451,7 @@ fn last_tests(block: &[u8], st: iff::InBlock, lines: u64) -> Checked
 pub fn check_block(
     block: &[u8],
     fresh: bool,
-    counts: keys::BlockCounts,
+    counts: references::BlockCounts,
     companies: &[u64],
     modes: &[u64],
     stations: &[u64],

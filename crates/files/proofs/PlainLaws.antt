@@ -20,7 +20,7 @@ use Rattle.iff_rules.specs.Meaning.{meaning}
 use Rattle.iff_rules.specs.Unique.{freshKey, freshTexts}
 use Rattle.iff_rules.specs.References.{met}
 use Rattle.keys.specs.Lookup.{keysIn}
-use Rattle.keys.specs.Agree.{StationKeys}
+use Rattle.references.specs.Agree.{StationKeys}
 use Rattle.files.specs.Tests.{asLine, layoutTest, plainRowTest}
 use Rattle.iff.specs.Columns.{recordFields, recordOf, fieldsOf}
 use Rattle.iff.specs.Values.{words, wordCount}
@@ -29,7 +29,7 @@ use Rattle.iff.specs.declared.Reason.{Reason}
 use Rattle.iff_rules.specs.Order.{tagOf}
 use Rattle.tables.proofs.Put.{length-put}
 use Rattle.records.proofs.FileLaws.{row-length, row-tag, row-put, row-room}
-use Rattle.keys.specs.Agree.{isPlainFile}
+use Rattle.references.specs.Agree.{isPlainFile}
 use Rattle.keys.specs.Runs.{runOf}
 use Rattle.keys.specs.declared.KeyRun.{KeyRun}
 use Rattle.files.specs.declared.Added.{Added}

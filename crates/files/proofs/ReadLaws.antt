@@ -37,7 +37,7 @@ use Rattle.tables.proofs.Filled.{fill-next, length-fill}
 use Rattle.records.proofs.FileLaws.{row-used, row-tag, plain-used}
 use Rattle.keys.specs.Lookup.{keysIn, isKeyRow}
 use Rattle.keys.specs.Runs.{noKeys, stepRun, runOf}
-use Rattle.keys.specs.Agree.{StationKeys, isPlainFile}
+use Rattle.references.specs.Agree.{StationKeys, isPlainFile}
 use Rattle.keys.specs.declared.KeyRun.{KeyRun}
 use Rattle.keys.proofs.Runs.{run-rises}
 use Rattle.keys.proofs.Fills.{keys-in-fill, run-key}

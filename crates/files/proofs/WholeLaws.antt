@@ -14,7 +14,7 @@ use Rattle.iff.specs.declared.Verdict.{Verdict}
 use Rattle.iff_rules.specs.Rows.{rowOf, laterRows, firstRowOf, Context}
 use Rattle.iff_rules.specs.Load.{plainVerdict, laterVerdict}
 use Rattle.reading.specs.declared.RowsRead.{RowsRead}
-use Rattle.keys.specs.Agree.{isPlainFile}
+use Rattle.references.specs.Agree.{isPlainFile}
 use Rattle.reading.specs.Reading.{headLine, Begun, Split, RowsDone}
 use Rattle.files.specs.Plain.{firstIn, PlainBegun, isRowFile}
 

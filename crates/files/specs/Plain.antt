@@ -23,7 +23,7 @@ use Rattle.iff_rules.specs.Rows.{rowOf, Context}
 use Rattle.iff_rules.specs.Load.{plainTest, plainVerdict}
 use Rattle.keys.specs.Lookup.{keysIn}
 use Rattle.keys.specs.Runs.{runOf}
-use Rattle.keys.specs.Agree.{StationKeys, isPlainFile}
+use Rattle.references.specs.Agree.{StationKeys, isPlainFile}
 use Rattle.keys.specs.declared.KeyRun.{KeyRun}
 use Rattle.reading.specs.Reading.{Begun}
 use Rattle.files.specs.Tests.{layoutTest, plainRowTest}

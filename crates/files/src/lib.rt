@@ -18,7 +18,7 @@ ghost use Rattle.iff.specs.Columns.{recordFields};
 ghost use Rattle.iff.specs.Values.{wordCount};
 ghost use Rattle.iff_rules.specs.Rows.{rowOf, Context};
 ghost use Rattle.records.specs.Layouts.{lineOf};
-ghost use Rattle.keys.specs.Agree.{StationKeys};
+ghost use Rattle.references.specs.Agree.{StationKeys};
 ghost use Rattle.iff_rules.specs.Unique.{freshTexts};
 ghost use Rattle.iff.specs.declared.File.the-variants.{Company};
 ghost use Rattle.files.specs.Tests.{asLine, sameColumns, sharesText, hasTexts, plainRowTest};
@@ -171,7 +171,7 @@ fn plain_row_test(
     if !fresh_texts(file, before, line) {
         return Test::Fails(Reason::Duplicate);
     }
-    if !keys::met_plain(file, row, countries, zones) {
+    if !references::met_plain(file, row, countries, zones) {
         return Test::Fails(Reason::Reference);
     }
     Test::Passes

@@ -11,7 +11,7 @@ use Rattle.iff.specs.declared.File.{File}
 use Rattle.iff.specs.declared.Verdict.{Verdict}
 use Rattle.iff_rules.specs.Rows.{Context}
 use Rattle.tables.proofs.Filled.{fill-front}
-use Rattle.keys.specs.Agree.{isGroupFile}
+use Rattle.references.specs.Agree.{isGroupFile}
 use Rattle.reading.specs.Reading.{Begun, RowsDone}
 use Rattle.reading.specs.declared.RowsRead.{RowsRead}
 use Rattle.groups.specs.Facts.{Groups}

@@ -19,7 +19,7 @@ use Rattle.iff.specs.declared.Verdict.the-variants.{Fine, Fault}
 use Rattle.iff_rules.specs.Order.{lineTest, strayTests, known, least}
 use Rattle.iff_rules.specs.Rows.{rowOf, Context}
 use Rattle.iff_rules.specs.Load.{groupTest, groupVerdict, groupsVerdict, strayVerdict, faultUnless, afterGroup}
-use Rattle.keys.specs.Agree.{isGroupFile}
+use Rattle.references.specs.Agree.{isGroupFile}
 use Rattle.keys.proofs.Fills.{keys-same, keys-next}
 use Rattle.groups.specs.Tests.{whole}
 use Rattle.groups.specs.Flat.{lineVerdict, flat}

@@ -28,7 +28,7 @@ use Rattle.iff_rules.specs.Rows.{rowOf, Context}
 use Rattle.iff_rules.specs.Meaning.{meaning}
 use Rattle.iff_rules.specs.Unique.{freshKey, freshInGroup, clash}
 use Rattle.iff_rules.specs.References.{met}
-use Rattle.keys.specs.Agree.{isGroupFile}
+use Rattle.references.specs.Agree.{isGroupFile}
 use Rattle.keys.specs.Blocks.{blockOfRows, rowsBetween}
 use Rattle.groups.specs.Tests.{placeTest, layoutTest, groupRowTest}
 use Rattle.groups.specs.Facts.{LineRead, RowMade, openRows}

@@ -20,7 +20,7 @@ use Rattle.iff_rules.specs.Meaning.{meaning}
 use Rattle.iff_rules.specs.Unique.{freshKey, freshInGroup}
 use Rattle.iff_rules.specs.References.{met}
 use Rattle.iff_rules.specs.Load.{groupTest}
-use Rattle.keys.specs.Agree.{isGroupFile}
+use Rattle.references.specs.Agree.{isGroupFile}
 use Rattle.keys.specs.Lookup.{isKeyRow}
 use Rattle.groups.specs.Tests.{placeTest, layoutTest, groupRowTest}
 

@@ -10,7 +10,7 @@ use Rattle.iff.specs.declared.File.{File}
 use Rattle.iff.specs.declared.File.the-variants.{Delivery, Company, Country, Trnsmode, Timezone, Stations, Footnote, Timetbls, Changes, Xfootnote, Xchanges}
 use Rattle.iff_rules.specs.Rows.{rowOf, laterRows, Context}
 use Rattle.iff_rules.specs.Load.{groupsVerdict, laterVerdict}
-use Rattle.keys.specs.Agree.{isGroupFile}
+use Rattle.references.specs.Agree.{isGroupFile}
 use Rattle.reading.specs.Reading.{RowsDone}
 use Rattle.reading.specs.declared.RowsRead.{RowsRead}
 

@@ -24,7 +24,7 @@ use Rattle.iff_rules.specs.Load.{groupTest}
 use Rattle.keys.specs.Lookup.{keysIn}
 use Rattle.keys.specs.Runs.{stepRun, runOf}
 use Rattle.keys.specs.Blocks.{rowsBetween}
-use Rattle.keys.specs.Agree.{isGroupFile}
+use Rattle.references.specs.Agree.{isGroupFile}
 use Rattle.keys.specs.declared.KeyRun.{KeyRun}
 use Rattle.reading.specs.Reading.{Begun}
 use Rattle.groups.specs.Tests.{placeTest, layoutTest}

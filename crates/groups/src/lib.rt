@@ -6,10 +6,10 @@ use iff::Reason;
 use iff::Record;
 use iff::Test;
 use iff::Verdict;
-use keys::GroupCounts;
 use keys::KeyRun;
 use reading::Begin;
 use reading::RowsRead;
+use references::GroupCounts;
 ghost use mathlib.Core.Path.{_≡_};
 ghost use mathlib.Core.Bool.{true, _&&_, cond};
 ghost use mathlib.Core.List.{map};
@@ -25,7 +25,7 @@ ghost use Rattle.iff_rules.specs.Unique.{freshKey, freshInGroup};
 ghost use Rattle.iff_rules.specs.Load.{groupsVerdict};
 ghost use Rattle.records.specs.Layouts.{lineOf};
 ghost use Rattle.keys.specs.Lookup.{keysIn};
-ghost use Rattle.keys.specs.Agree.{GroupKeys, GroupKeysAmong, isGroupFile};
+ghost use Rattle.references.specs.Agree.{GroupKeys, GroupKeysAmong, isGroupFile};
 ghost use Rattle.iff.specs.Refusals.{fine};
 ghost use Rattle.reading.specs.Reading.{Ready, RowsDone, FileRead};
 ghost use Rattle.groups.specs.Tests.{placeTest, groupRowTest, whole};
@@ -178,7 +178,7 @@ fn is_unique(file: File, rows: usize, size: usize, run: KeyRun, row: &[u64], t: 
         return keys::is_fresh(file, run, t, row[1]);
     }
     let from = rows - size + 1;
-    keys::fresh_in_group(file, t, from, rows, row)
+    clashes::fresh_in_group(file, t, from, rows, row)
 }
 
 // The tests of a row, in their order: values, duplicates, references.
@@ -205,7 +205,7 @@ fn row_test(
     if !is_unique(file, rows, size, run, row, t) {
         return Test::Fails(Reason::Duplicate);
     }
-    if !keys::met_group(
+    if !references::met_group(
         file,
         row,
         counts,
@@ -502,7 +502,7 @@ pub fn read_groups(
     requires { ⌜ Groups file from (now text) (now t) ⌝ }
     ensures { λ r. ⌜ RowsDone file days (λ c. GroupKeys c (now (companies .entry)) (now (modes .entry)) (now (stations .entry)) (now (services .entry)) (now (xfootnotes .entry))) (λ c. groupsVerdict c file (lines (drop from (now (text .entry))))) (take (rowWidth file) (now (t .entry))) (map (rowOf days file) (lines (drop from (now (text .entry))))) (now (t .entry)) (now (t .exit)) r ⌝ }
 {
-    let counts = keys::count_for_groups(companies, modes, stations, services, xfootnotes);
+    let counts = references::count_for_groups(companies, modes, stations, services, xfootnotes);
     add_groups(
         file,
         days,

@@ -7,10 +7,8 @@ use native.Mathlib.Numerals.{add-one}
 use native.Mathlib.Omega.{arith}
 use lib.ListN.{length, take, drop}
 use lib.Seq.{drop-cons}
-use Rattle.iff.specs.declared.File.{File}
 use Rattle.iff.specs.Lists.{any}
 use Rattle.iff.specs.Tables.{Row, rowAt, fill, rowsUpTo, rowsOfWidth}
-use Rattle.iff_rules.specs.Unique.{clash}
 use Rattle.tables.proofs.Each.{Each}
 use Rattle.tables.proofs.Rows.{Used, row-is}
 use Rattle.tables.proofs.Filled.{rows-in-fill}
@@ -32,12 +30,6 @@ pub between-in-fill : (w : ℕ) → 0 < w → (n : ℕ) (rs : List Row) → Each
 between-in-fill w s n rs u h from to l g =
     let e = rows-in-fill w s n rs u h in
     between-in-table w (fill w n rs) from to l (rw e g) ∙ ap (λ (l : List Row). take (to - from) (drop from l)) e
-
--- a part of the table that is as long as a row
-pub part-row : (f : File) (w i : ℕ) (t : List ℕ) (row : Row) (b : Bool) → b ≡ clash f row (take (i * w + w - i * w) (drop (i * w) t)) → b ≡ clash f row (rowAt w t i)
-part-row f w i t row b e =
-    let z : i * w + w - i * w ≡ w = omega arith in
-    rw z at e
 
 -- the loop over the rows from i on
 module _ (p : Row → Bool) (w : ℕ) (t : List ℕ) (to i : ℕ) where

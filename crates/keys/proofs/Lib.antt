@@ -5,6 +5,4 @@ pub mod Fills
 pub mod Blocks
 -- laws of the functions
 pub mod Among
-pub mod References
-pub mod Groups
 pub mod MarkLaws

@@ -1,5 +1,4 @@
 pub mod Blocks
 pub mod Lookup
 pub mod Runs
-pub mod Agree
 pub mod Marks

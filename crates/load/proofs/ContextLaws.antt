@@ -13,7 +13,7 @@ use Rattle.iff_rules.specs.References.{met, metInBlock}
 use Rattle.iff_rules.specs.Rows.{Context}
 use Rattle.iff_rules.specs.Load.{plainTest, plainVerdict, groupTest, groupVerdict, groupsVerdict, blockTest, blockVerdict, timetblsVerdict, fileVerdict}
 use Rattle.keys.specs.Lookup.{keysIn}
-use Rattle.keys.specs.Agree.{BlockKeys, StationKeys, GroupKeys}
+use Rattle.references.specs.Agree.{BlockKeys, StationKeys, GroupKeys}
 use Rattle.reading.specs.Reading.{FileRead}
 
 abbrev pub Keys : Type 0

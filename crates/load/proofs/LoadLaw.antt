@@ -23,7 +23,7 @@ use Rattle.iff.specs.declared.Answer.{Answer}
 use Rattle.iff_rules.specs.Rows.{firstRowOf, rowsOfLines, daysOf, firstOf, deliveryRows, rowsOfFiles, Context, contextOf}
 use Rattle.iff_rules.specs.Load.{faultUnless, roomVerdict, overFiles, deliveryVerdict, companyVerdict, fileVerdict, contentsVerdict, loadVerdict, loadAnswer, filled, loadTable}
 use Rattle.keys.specs.Lookup.{keysIn}
-use Rattle.keys.specs.Agree.{BlockKeys, StationKeys, GroupKeys}
+use Rattle.references.specs.Agree.{BlockKeys, StationKeys, GroupKeys}
 use Rattle.reading.specs.Reading.{Ready, FileRead, DeliveryRead, headLine}
 use Rattle.iff_laws.specs.Outcomes.{Loaded}
 use Rattle.iff_laws.specs.ScanLaws.{or-fine, cons-fine, or-nothing}

@@ -33,7 +33,7 @@ use Rattle.keys.proofs.Fills.{keys-append}
 use Rattle.legs.proofs.RowLaws.{block-lines}
 use Rattle.blocks.specs.declared.Checked.{Checked}
 use Rattle.blocks.specs.declared.Checked.the-variants.{Whole, Broken}
-use Rattle.keys.specs.declared.BlockCounts.{BlockCounts}
+use Rattle.references.specs.declared.BlockCounts.{BlockCounts}
 use Rattle.blocks.specs.Whole.{WholeBlock, BlockChecked}
 use Rattle.blocks.proofs.WholeLaws.{fresh-service}
 use Rattle.timetbls.specs.declared.Added.the-variants.{Kept, Faulty}

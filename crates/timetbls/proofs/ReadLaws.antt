@@ -25,8 +25,8 @@ use Rattle.keys.specs.declared.KeyRun.{KeyRun}
 use Rattle.keys.specs.Lookup.{keysIn}
 use Rattle.keys.specs.Runs.{noKeys}
 use Rattle.keys.specs.Marks.{Marked}
-use Rattle.keys.specs.declared.BlockCounts.{BlockCounts}
-use Rattle.keys.specs.Agree.{BlockKeys, BlockKeysAmong}
+use Rattle.references.specs.declared.BlockCounts.{BlockCounts}
+use Rattle.references.specs.Agree.{BlockKeys, BlockKeysAmong}
 use Rattle.keys.proofs.Runs.{run-rises}
 use Rattle.reading.specs.declared.RowsRead.{RowsRead}
 use Rattle.reading.specs.declared.RowsRead.the-variants.{AllRead, Stopped}

@@ -22,8 +22,8 @@ use Rattle.keys.specs.declared.KeyRun.{KeyRun}
 use Rattle.keys.specs.Lookup.{keysIn}
 use Rattle.keys.specs.Runs.{noKeys, runOf, stepRun}
 use Rattle.keys.specs.Marks.{slotOf, Marked}
-use Rattle.keys.specs.declared.BlockCounts.{BlockCounts}
-use Rattle.keys.specs.Agree.{BlockKeys, BlockKeysAmong}
+use Rattle.references.specs.declared.BlockCounts.{BlockCounts}
+use Rattle.references.specs.Agree.{BlockKeys, BlockKeysAmong}
 use Rattle.blocks.specs.declared.Checked.{Checked}
 use Rattle.blocks.specs.declared.Checked.the-variants.{Whole}
 use Rattle.blocks.specs.Whole.{checkedAt, WholeBlock}

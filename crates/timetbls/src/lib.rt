@@ -10,7 +10,7 @@ ghost use Rattle.iff.specs.declared.File.the-variants.{Timetbls};
 ghost use Rattle.iff_rules.specs.Rows.{asBlock, blockRow, blockRows};
 ghost use Rattle.iff_rules.specs.Load.{serviceOf};
 ghost use Rattle.iff.specs.Refusals.{fine};
-ghost use Rattle.keys.specs.Agree.{BlockKeys};
+ghost use Rattle.references.specs.Agree.{BlockKeys};
 ghost use Rattle.keys.specs.Lookup.{keysIn};
 ghost use Rattle.reading.specs.Reading.{Ready, FileRead};
 ghost use Rattle.keys.specs.Runs.{runOf};
@@ -94,7 +94,7 @@ fn test_block(
     run: keys::KeyRun,
     marks: &[u8],
     t: &[u64],
-    counts: keys::BlockCounts,
+    counts: references::BlockCounts,
     companies: &[u64],
     modes: &[u64],
     stations: &[u64],
@@ -125,7 +125,7 @@ fn add_block(
     marks: &mut [u8],
     row: usize,
     t: &mut [u64],
-    counts: keys::BlockCounts,
+    counts: references::BlockCounts,
     companies: &[u64],
     modes: &[u64],
     stations: &[u64],
@@ -160,7 +160,7 @@ fn add_blocks(
     from: usize,
     marks: &mut [u8],
     t: &mut [u64],
-    counts: keys::BlockCounts,
+    counts: references::BlockCounts,
     companies: &[u64],
     modes: &[u64],
     stations: &[u64],
@@ -242,7 +242,7 @@ pub fn read_blocks(
             reading::RowsRead::Stopped(why, place)
         }
         iff::Test::Passes => {
-            let counts = keys::count_for_blocks(companies, modes, stations, footnotes);
+            let counts = references::count_for_blocks(companies, modes, stations, footnotes);
             let mut marks = [0u8; 262144];
             add_blocks(
                 text,

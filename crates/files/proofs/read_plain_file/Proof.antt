@@ -9,7 +9,7 @@ use lib.ListN.{length, drop}
 use Rattle.iff.specs.Lines.{lines}
 use Rattle.iff.specs.Refusals.{fine}
 use Rattle.iff_rules.specs.Rows.{rowOf}
-use Rattle.keys.specs.Agree.{StationKeys}
+use Rattle.references.specs.Agree.{StationKeys}
 use Rattle.reading.specs.Reading.{Ready, headLine, beginTest}
 use Rattle.heads.proofs.FileLaws.{some-lines, absent, passed, first-refused, rows-refused, rows-accepted, flag-fits}
 use Rattle.files.proofs.WholeLaws.{plain-begun, begun-first, later-rows, as-later}

@@ -5,7 +5,7 @@ use native.Mathlib.Omega.{arith}
 use borrow.Author.Tests.{not-true, not-false}
 use borrow.Author.Needs.{needs}
 use lib.ListN.{length}
-use Rattle.keys.specs.Agree.{GroupKeysAmong}
+use Rattle.references.specs.Agree.{GroupKeysAmong}
 use Rattle.groups.proofs.WalkLaws.{Walk, walk-start, walk-count, walk-beside, walk-inside, walk-early, walk-refused, walk-goes, walk-short, walk-ends}
 use Rattle.groups.proofs.add_groups.Statement.{statement}
 use Rattle.groups.proofs.add_groups.Tie as tie

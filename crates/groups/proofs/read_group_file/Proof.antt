@@ -6,7 +6,7 @@ use borrow.Author.Needs.{needs}
 use lib.ListN.{length, drop}
 use Rattle.iff.specs.Lines.{lines}
 use Rattle.iff.specs.Refusals.{fine}
-use Rattle.keys.specs.Agree.{GroupKeys}
+use Rattle.references.specs.Agree.{GroupKeys}
 use Rattle.reading.specs.Reading.{beginTest}
 use Rattle.heads.proofs.FileLaws.{some-lines, absent, passed, first-refused, rows-refused, rows-accepted, flag-fits}
 use Rattle.groups.proofs.Begins.{groups-ready, done-behind}

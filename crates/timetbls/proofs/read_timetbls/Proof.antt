@@ -7,7 +7,7 @@ use lib.ListN.{length, drop}
 use Rattle.iff.specs.Lines.{lines}
 use Rattle.iff.specs.Refusals.{fine}
 use Rattle.iff.specs.declared.File.the-variants.{Timetbls}
-use Rattle.keys.specs.Agree.{BlockKeys}
+use Rattle.references.specs.Agree.{BlockKeys}
 use Rattle.reading.specs.Reading.{beginTest}
 use Rattle.heads.proofs.FileLaws.{some-lines, absent, passed, first-refused, rows-refused, rows-accepted, flag-fits}
 use Rattle.timetbls.proofs.read_timetbls.Statement.{statement}

@@ -1,0 +1,16 @@
+-- `met_station` meets its contract. Assumes nothing.
+use borrow.Author.Needs.{needs}
+use Rattle.iff_rules.specs.References.{met}
+use Rattle.references.proofs.met_station.Statement.{statement}
+use Rattle.references.proofs.met_station.Tie as tie
+
+returns : tie.Need-returns
+unfolding met
+returns c k a = rw (a .countries, a .zones, ← c .before .before .before .names .ensures, c .before .before .if1 .taken) (c .names2 .ensures)
+
+returns-2 : tie.Need-returns-2
+unfolding met
+returns-2 c k a = rw (a .countries, ← c .before .names .ensures, c .if1 .left)
+
+pub met-station-spec : {M : Type 1} → statement M
+met-station-spec = tie.close (tie.spec (λ c. search needs) (λ c κs. search needs) (λ c. search needs) (λ c κs. search needs) returns returns-2)
