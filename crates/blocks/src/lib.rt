@@ -7,7 +7,7 @@ ghost use lib.Dec.{eqb};
 ghost use lib.ListN.{length, getD, take, drop};
 ghost use Rattle.iff.specs.Bytes.{hash};
 ghost use Rattle.iff_rules.specs.Meaning.{mostStops};
-ghost use Rattle.iff_rules.specs.Order.{goes, finished, isStop};
+ghost use Rattle.iff_rules.specs.Order.{isStop};
 ghost use Rattle.iff_rules.specs.Legs.{one};
 ghost use Rattle.iff_rules.specs.Rows.{asBlock};
 ghost use Rattle.iff_rules.specs.Load.{serviceOf};
@@ -39,96 +39,6 @@ pub enum Checked {
     Broken(iff::Reason, u64),
 }
 
-// The order of a block.
-
-// What a record's letter does where a block stands.
-fn goes(stand: iff::Stand, letter: u8) -> iff::Next
-    ensures { λ r. ⌜ r ≡ goes stand letter ⌝ }
-{
-    match stand {
-        iff::Stand::Start => match letter {
-            b'#' => iff::Next::Goes(iff::Stand::Hash),
-            _ => iff::Next::NotHere,
-        },
-        iff::Stand::Hash => match letter {
-            b'%' => iff::Next::Goes(iff::Stand::Percent),
-            _ => iff::Next::NotHere,
-        },
-        iff::Stand::Percent => match letter {
-            b'%' => iff::Next::Goes(iff::Stand::Percent),
-            b'-' => iff::Next::Goes(iff::Stand::Dash),
-            _ => iff::Next::NotHere,
-        },
-        iff::Stand::Dash => match letter {
-            b'-' => iff::Next::Goes(iff::Stand::Dash),
-            b'&' => iff::Next::Goes(iff::Stand::Ampersand),
-            _ => iff::Next::NotHere,
-        },
-        iff::Stand::Ampersand => match letter {
-            b'&' => iff::Next::Goes(iff::Stand::Ampersand),
-            b'*' => iff::Next::Goes(iff::Stand::Asterisk),
-            b'>' => iff::Next::Goes(iff::Stand::Stop),
-            _ => iff::Next::NotHere,
-        },
-        iff::Stand::Asterisk => match letter {
-            b'*' => iff::Next::Goes(iff::Stand::Asterisk),
-            b'>' => iff::Next::Goes(iff::Stand::Stop),
-            _ => iff::Next::NotHere,
-        },
-        iff::Stand::Stop => match letter {
-            b'.' => iff::Next::Goes(iff::Stand::Stop),
-            b'+' => iff::Next::Goes(iff::Stand::Stop),
-            b';' => iff::Next::Goes(iff::Stand::Between),
-            b'?' => iff::Next::Goes(iff::Stand::Between),
-            b'<' => iff::Next::Goes(iff::Stand::Last),
-            _ => iff::Next::NotHere,
-        },
-        iff::Stand::Between => match letter {
-            b'.' => iff::Next::Goes(iff::Stand::Stop),
-            b'+' => iff::Next::Goes(iff::Stand::Stop),
-            b';' => iff::Next::Goes(iff::Stand::Between),
-            b'<' => iff::Next::Goes(iff::Stand::Last),
-            _ => iff::Next::NotHere,
-        },
-        iff::Stand::Last => match letter {
-            b'?' => iff::Next::Goes(iff::Stand::LastPlatform),
-            _ => iff::Next::NotHere,
-        },
-        iff::Stand::LastPlatform => iff::Next::NotHere,
-    }
-}
-
-// A block may end here.
-fn is_finished(stand: iff::Stand) -> bool
-    ensures { λ r. ⌜ r ≡ finished stand ⌝ }
-{
-    match stand {
-        iff::Stand::Start => false,
-        iff::Stand::Hash => false,
-        iff::Stand::Percent => false,
-        iff::Stand::Dash => false,
-        iff::Stand::Ampersand => false,
-        iff::Stand::Asterisk => false,
-        iff::Stand::Stop => false,
-        iff::Stand::Between => false,
-        iff::Stand::Last => true,
-        iff::Stand::LastPlatform => true,
-    }
-}
-
-// A record that is a stop. A passed station has no number, and is none.
-fn is_stop(letter: u8) -> bool
-    ensures { λ r. ⌜ r ≡ isStop letter ⌝ }
-{
-    match letter {
-        b'>' => true,
-        b'.' => true,
-        b'+' => true,
-        b'<' => true,
-        _ => false,
-    }
-}
-
 // One line of a block.
 
 // A `#` must name a new service; no other record names one.
@@ -155,7 +65,7 @@ fn row_test(
     requires { ⌜ length (now row) ≡ 7 ⌝ }
     ensures { λ r. ⌜ r ≡ rowTest (keysFrom counts (now (companies .entry)) (now (modes .entry)) (now (stations .entry)) (now (footnotes .entry))) fresh stops (now (row .entry)) ⌝ }
 {
-    if !records::row_means(iff::File::Timetbls, stops as usize, row) {
+    if !meanings::row_means(iff::File::Timetbls, stops as usize, row) {
         return iff::Test::Fails(iff::Reason::Value);
     }
     if !is_new(row[0], fresh) {
@@ -208,7 +118,7 @@ fn after_record(to: iff::Stand, stops: u64, letter: u8) -> iff::InBlock
     requires { ⌜ stops ≤ mostStops ⌝ }
     ensures { λ r. ⌜ r ≡ record { stand = to; stops = stops + one (isStop letter) } ⌝ }
 {
-    if is_stop(letter) {
+    if order::is_stop(letter as u64) {
         return iff::InBlock {
             stand: to,
             stops: stops + 1,
@@ -236,12 +146,12 @@ fn block_line(
     ensures { λ r. ⌜ r ≡ blockStep (keysFrom counts (now (companies .entry)) (now (modes .entry)) (now (stations .entry)) (now (footnotes .entry))) fresh st (record { body = now (line .entry); ended = ended }) ⌝ }
 {
     let letter = text::first_byte(line);
-    if !records::is_known(iff::File::Timetbls, letter) {
+    if !order::is_known(iff::File::Timetbls, letter) {
         return Step::No(iff::Reason::Layout);
     }
     let stand = st.stand;
     let stops = st.stops;
-    match goes(stand, letter) {
+    match order::goes(stand, letter) {
         iff::Next::NotHere => Step::No(iff::Reason::Order),
         iff::Next::Goes(to) => match record_test(
             letter,
@@ -437,7 +347,7 @@ fn last_tests(block: &[u8], st: iff::InBlock, lines: u64) -> Checked
     ensures { λ r. ⌜ r ≡ lastTests (now (block .entry)) st lines ⌝ }
 {
     let stand = st.stand;
-    if !is_finished(stand) {
+    if !order::is_finished(stand) {
         return Checked::Broken(iff::Reason::Order, lines);
     }
     let stops = st.stops;

@@ -161,7 +161,7 @@ fn plain_row_test(
     requires { ⌜ PlainRow file (now row) (now t) run ⌝ }
     ensures { λ r. ⌜ ((c : Context) → StationKeys c (now (countries .entry)) (now (zones .entry)) → (earlier : List Line) → Earlier c file count (now (before .entry)) (now (t .entry)) earlier → r ≡ plainRowTest c file earlier (asLine (now (line .entry))) (now (row .entry))) ⌝ }
 {
-    if !records::row_means(file, count, row) {
+    if !meanings::row_means(file, count, row) {
         return Test::Fails(Reason::Value);
     }
     let k = keys::key_word(file);

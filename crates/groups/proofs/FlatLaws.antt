@@ -21,7 +21,7 @@ use Rattle.iff_rules.specs.Rows.{rowOf, Context}
 use Rattle.iff_rules.specs.Load.{groupTest, groupVerdict, groupsVerdict, strayVerdict, faultUnless, afterGroup}
 use Rattle.references.specs.Agree.{isGroupFile}
 use Rattle.keys.proofs.Fills.{keys-same, keys-next}
-use Rattle.groups.specs.Tests.{whole}
+use Rattle.order.specs.Whole.{whole}
 use Rattle.groups.specs.Flat.{lineVerdict, flat}
 use Rattle.groups.proofs.TestLaws.{key-word, row-key, any-keys, stray-line}
 

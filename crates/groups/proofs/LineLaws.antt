@@ -34,41 +34,7 @@ use Rattle.groups.specs.Tests.{placeTest, layoutTest, groupRowTest}
 use Rattle.groups.specs.Facts.{LineRead, RowMade, openRows}
 use Rattle.groups.proofs.TestLaws.{key-tag, key-word, row-tag}
 
--- WHERE A LINE MAY STAND
-pub vector-first : (k t : ℕ) → k ≡ 0 → eqb t 1 ≡ oneVector k t
-vector-first zero t e = refl
-vector-first (suc k) t e = absurd (omega arith)
-
-pub vector-later : (k t : ℕ) → (k ≡ 0 → ⊥) → false ≡ oneVector k t
-vector-later zero t e = absurd (e refl)
-vector-later (suc k) t e = refl
-
-pub follow-first : (f : File) (k t : ℕ) → k ≡ 0 → eqb t hash ≡ mayFollow f k t
-unfolding mayFollow
-follow-first f zero t e = refl
-follow-first f (suc k) t e = absurd (omega arith)
-
-pub follow-later : (f : File) (k t : ℕ) → (k ≡ 0 → ⊥) → inGroup f (k - 1) t ≡ mayFollow f k t
-unfolding mayFollow
-follow-later f zero t e = absurd (e refl)
-follow-later f (suc k) t e =
-    let p : suc k - 1 ≡ k = omega arith in
-    rw p
-
 -- THE ROW OF A LINE
-pub width-least : (f : File) → 6 ≤ rowWidth f
-width-least Delivery = lit≤ tt
-width-least Company = lit≤ tt
-width-least Country = lit≤ tt
-width-least Trnsmode = lit≤ tt
-width-least Timezone = lit≤ tt
-width-least Stations = lit≤ tt
-width-least Footnote = lit≤ tt
-width-least Timetbls = lit≤ tt
-width-least Changes = lit≤ tt
-width-least Xfootnote = lit≤ tt
-width-least Xchanges = lit≤ tt
-
 -- a row has room for its record's words
 abbrev fitsIn : ℕ → ℕ → Record → Type 0
 fitsIn days w r = suc (wordCount (recordFields days r)) ≤ w

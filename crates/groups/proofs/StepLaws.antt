@@ -18,7 +18,8 @@ use Rattle.iff_rules.specs.Load.{groupTest}
 use Rattle.keys.specs.Lookup.{keysIn}
 use Rattle.keys.specs.Blocks.{blockOfRows}
 use Rattle.keys.specs.declared.KeyRun.{KeyRun}
-use Rattle.groups.specs.Tests.{groupRowTest, whole}
+use Rattle.order.specs.Whole.{whole}
+use Rattle.groups.specs.Tests.{groupRowTest}
 use Rattle.groups.specs.Flat.{lineVerdict}
 use Rattle.groups.specs.Facts.{RowMade, RowTested, Beside, openRows, runAfter, addDue, lineDue, Stepped}
 use Rattle.groups.specs.declared.Step.{Step}

@@ -29,12 +29,13 @@ use Rattle.tables.proofs.Filled.{fill-next}
 use Rattle.keys.specs.Lookup.{keysIn}
 use Rattle.keys.specs.Runs.{noKeys, runOf}
 use Rattle.keys.proofs.Runs.{run-rises}
-use Rattle.keys.proofs.Fills.{width-some, keys-in-fill, keys-same, run-key}
+use Rattle.tables.proofs.Widths.{widths}
+use Rattle.keys.proofs.Fills.{keys-in-fill, keys-same, run-key}
 use Rattle.keys.proofs.Blocks.{between-in-fill}
 use Rattle.keys.specs.declared.KeyRun.{KeyRun}
 use Rattle.reading.specs.Reading.{RowsDone}
 use Rattle.reading.specs.declared.RowsRead.the-variants.{AllRead, Stopped}
-use Rattle.groups.specs.Tests.{whole}
+use Rattle.order.specs.Whole.{whole}
 use Rattle.groups.specs.Flat.{joins, flat}
 use Rattle.groups.specs.Facts.{Beside, openRows, stepVerdict, lineDue, Added, Stepped, Groups}
 use Rattle.groups.specs.declared.Open.{Open}
@@ -127,7 +128,7 @@ module _ (f : File) (days from : ℕ) (text t₀ : List ℕ) (Agree : Context �
 
     -- so the lines can be counted
     pub walk-count : j < length t₀
-    walk-count = omega (arith, fitting, rows-length, many (suc (length (upTo j))) w (width-some f))
+    walk-count = omega (arith, fitting, rows-length, many (suc (length (upTo j))) w (widths f .some))
 
     -- what stands in the table
     keys-here : keysIn f t ≡ keysOf f (upTo j)
@@ -140,7 +141,7 @@ module _ (f : File) (days from : ℕ) (text t₀ : List ℕ) (Agree : Context �
         let b : j + 1 - suc (j - g .size) ≡ g .size = omega (arith, W .part) in
         let n : length (drop (j - g .size) (upTo j)) ≤ g .size = rw (length-drop, rows-length) (omega (arith, W .part)) in
         ap (λ (x : List ℕ). openRows f x (j + 1) (g .size)) (W .table)
-        ∙ (between-in-fill w (width-some f) (length t₀) (first ∷ upTo j) (W .used) fitting (j + 1 - g .size) (j + 1) (omega arith) (omega (arith, rows-length))
+        ∙ (between-in-fill w (widths f .some) (length t₀) (first ∷ upTo j) (W .used) fitting (j + 1 - g .size) (j + 1) (omega arith) (omega (arith, rows-length))
         ∙ rw (a, b) (take-all (g .size) (drop (j - g .size) (upTo j)) n))
 
     -- a line can be put behind them
@@ -151,7 +152,7 @@ module _ (f : File) (days from : ℕ) (text t₀ : List ℕ) (Agree : Context �
         record {
           grouped = G .grouped;
           part = omega (arith, W .part);
-          few = omega (arith, many (j + 1) w (width-some f), width-some f);
+          few = omega (arith, many (j + 1) w (widths f .some), widths f .some);
           room = rw k r;
           runs = W .runs ∙ ap runOf (sym keys-here);
         }

@@ -13,7 +13,7 @@ use Rattle.iff.specs.declared.Place.the-variants.{At}
 use Rattle.iff.specs.declared.Verdict.{Verdict}
 use Rattle.iff_rules.specs.Rows.{rowOf, Context}
 use Rattle.iff_rules.specs.Load.{groupTest, faultUnless}
-use Rattle.groups.specs.Tests.{whole}
+use Rattle.order.specs.Whole.{whole}
 
 -- the rows of the group that a line is put to
 abbrev pub joins : List Row → Line → List Row

@@ -1,9 +1,8 @@
 -- The tests of a line of a group, in the parts that the code makes of them: its first byte, its layout and values, its row.
 use Prim.Native.Nat.{ℕ}
 use mathlib.Core.List.{List, [], _∷_}
-use mathlib.Core.Bool.{Bool, true, _&&_, cond}
+use mathlib.Core.Bool.{_&&_}
 use lib.ListN.{length, drop}
-use lib.Dec.{eqb, leb}
 use Rattle.iff.specs.Refusals.{orTest, firstTest, unless}
 use Rattle.iff.specs.Lines.{Line}
 use Rattle.iff.specs.Columns.{Field, laid}
@@ -12,7 +11,7 @@ use Rattle.iff.specs.Tables.{Row}
 use Rattle.iff.specs.declared.File.{File}
 use Rattle.iff.specs.declared.Reason.the-variants.{Layout, Value, Order, Duplicate, Reference}
 use Rattle.iff.specs.declared.Test.{Test}
-use Rattle.iff_rules.specs.Order.{known, mayFollow, tagOf, least}
+use Rattle.iff_rules.specs.Order.{known, mayFollow, tagOf}
 use Rattle.iff_rules.specs.Rows.{Context}
 use Rattle.iff_rules.specs.Meaning.{meaning}
 use Rattle.iff_rules.specs.Unique.{freshKey, freshInGroup}
@@ -33,7 +32,3 @@ groupRowTest c f seen earlier r =
     ∷ unless (freshKey f seen r && freshInGroup f (drop 1 earlier) r) Duplicate
     ∷ unless (met c f r) Reference
     ∷ [])
-
--- a group of k lines may end; where none was opened nothing is missing
-unfoldable pub whole : File → ℕ → Bool
-whole f k = cond (eqb k 0) true (leb (least f) k)

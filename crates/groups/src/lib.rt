@@ -19,7 +19,6 @@ ghost use Rattle.iff.specs.Lines.{lines, isHash};
 ghost use Rattle.iff.specs.Columns.{recordFields};
 ghost use Rattle.iff.specs.Values.{wordCount};
 ghost use Rattle.iff.specs.Tables.{rowWidth};
-ghost use Rattle.iff_rules.specs.Order.{mayFollow, inGroup, oneVector, isPeriod, least};
 ghost use Rattle.iff_rules.specs.Rows.{Context, rowOf};
 ghost use Rattle.iff_rules.specs.Unique.{freshKey, freshInGroup};
 ghost use Rattle.iff_rules.specs.Load.{groupsVerdict};
@@ -28,7 +27,7 @@ ghost use Rattle.keys.specs.Lookup.{keysIn};
 ghost use Rattle.references.specs.Agree.{GroupKeys, GroupKeysAmong, isGroupFile};
 ghost use Rattle.iff.specs.Refusals.{fine};
 ghost use Rattle.reading.specs.Reading.{Ready, RowsDone, FileRead};
-ghost use Rattle.groups.specs.Tests.{placeTest, groupRowTest, whole};
+ghost use Rattle.groups.specs.Tests.{placeTest, groupRowTest};
 ghost use Rattle.groups.specs.Facts.{LineRead, RowMade, Beside, openRows, runAfter, RowTested, addDue, lineDue, Stepped, Groups};
 
 // The letter `#` as a row's tag.
@@ -47,93 +46,15 @@ pub enum Step {
     No(Reason),
 }
 
-// How many lines a group has at the least. Only files of groups have any.
-fn least_lines(file: File) -> usize
-    ensures { λ r. ⌜ r ≡ least file ⌝ }
-{
-    match file {
-        File::Delivery => 0,
-        File::Company => 0,
-        File::Country => 0,
-        File::Trnsmode => 0,
-        File::Timezone => 2,
-        File::Stations => 0,
-        File::Footnote => 2,
-        File::Timetbls => 0,
-        File::Changes => 1,
-        File::Xfootnote => 2,
-        File::Xchanges => 1,
-    }
-}
-
-// A group of `size` lines may end; where none was opened, nothing is missing.
-fn is_whole(file: File, size: usize) -> bool
-    ensures { λ r. ⌜ r ≡ whole file size ⌝ }
-{
-    if size == 0 {
-        return true;
-    }
-    least_lines(file) <= size
-}
-
-// A zone's period is `+` or `-`.
-fn is_sign(tag: u64) -> bool
-    ensures { λ r. ⌜ r ≡ isPeriod tag ⌝ }
-{
-    if tag == 43 {
-        return true;
-    }
-    tag == 45
-}
-
-// A footnote has one vector, right after its `#`.
-fn is_only_vector(after: usize, tag: u64) -> bool
-    ensures { λ r. ⌜ r ≡ oneVector after tag ⌝ }
-{
-    if after == 0 {
-        return tag == 1;
-    }
-    false
-}
-
-// A row with this tag may stand in a group, `after` lines behind its `#`.
-fn may_stand(file: File, after: usize, tag: u64) -> bool
-    ensures { λ r. ⌜ r ≡ inGroup file after tag ⌝ }
-{
-    match file {
-        File::Delivery => false,
-        File::Company => false,
-        File::Country => false,
-        File::Trnsmode => false,
-        File::Timezone => is_sign(tag),
-        File::Stations => false,
-        File::Footnote => is_only_vector(after, tag),
-        File::Timetbls => false,
-        File::Changes => tag == 45,
-        File::Xfootnote => is_only_vector(after, tag),
-        File::Xchanges => tag == 45,
-    }
-}
-
-// A row with this tag may follow `size` lines of a group.
-fn may_follow(file: File, size: usize, tag: u64) -> bool
-    ensures { λ r. ⌜ r ≡ mayFollow file size tag ⌝ }
-{
-    if size == 0 {
-        return tag == HASH;
-    }
-    may_stand(file, size - 1, tag)
-}
-
 // A line's first byte: known, and where it may stand.
 fn place_test(file: File, size: usize, letter: u8) -> Test
     ensures { λ r. ⌜ r ≡ placeTest file size letter ⌝ }
 {
-    if !records::is_known(file, letter) {
+    if !order::is_known(file, letter) {
         return Test::Fails(Reason::Layout);
     }
-    let tag = records::tag_of(file, letter);
-    if !may_follow(file, size, tag) {
+    let tag = order::tag_of(file, letter);
+    if !order::may_follow(file, size, tag) {
         return Test::Fails(Reason::Order);
     }
     Test::Passes
@@ -163,7 +84,7 @@ fn make_row(file: File, days: usize, size: usize, line: &[u8], ended: bool, row:
         Test::Fails(r) => Test::Fails(r),
         Test::Passes => {
             let kind = records::record_of(file, letter);
-            let tag = records::tag_of(file, letter);
+            let tag = order::tag_of(file, letter);
             read_line(kind, tag, days, line, ended, row)
         }
     }
@@ -199,7 +120,7 @@ fn row_test(
     requires { ⌜ Beside file rows size run (now t) × (length (now row) ≡ rowWidth file) ⌝ }
     ensures { λ r. ⌜ ((c : Context) → GroupKeysAmong c counts (now (companies .entry)) (now (modes .entry)) (now (stations .entry)) (now (services .entry)) (now (xfootnotes .entry)) → r ≡ groupRowTest c file (keysIn file (now (t .entry))) (openRows file (now (t .entry)) rows size) (now (row .entry))) ⌝ }
 {
-    if !records::row_means(file, size, row) {
+    if !meanings::row_means(file, size, row) {
         return Test::Fails(Reason::Value);
     }
     if !is_unique(file, rows, size, run, row, t) {
@@ -383,7 +304,7 @@ fn group_line(
     let size = group.size;
     let run = group.run;
     if text::first_byte(line) == b'#' {
-        if !is_whole(file, size) {
+        if !order::is_whole(file, size) {
             return Step::Early;
         }
         return add_line(
@@ -479,7 +400,7 @@ fn add_groups(
         }
     }
     let size = group.size;
-    if !is_whole(file, size) {
+    if !order::is_whole(file, size) {
         return RowsRead::Stopped(Reason::Order, Place::At(file, 0, read as u64 + 1));
     }
     let run = group.run;

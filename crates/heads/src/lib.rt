@@ -26,7 +26,7 @@ fn days_right(line: &[u8]) -> bool
 {
     let mut row = [0u64; 6];
     records::put_words(Record::FirstRecord, 64, 0, 0, line, &mut row);
-    records::first_means(&row)
+    meanings::first_means(&row)
 }
 
 // A first line: 7 at once where it does not begin `@`, then layout, then 6 where it differs from DELIVERY's, then its values.

@@ -1,14 +1,13 @@
 -- The keys of a table that is filled row by row, and the run of them. Laws of the definitions alone. Assumes nothing.
-use Prim.Native.Nat.{ℕ, _*_, _≤_, _<_}
+use Prim.Native.Nat.{ℕ, _*_, _≤_}
 use mathlib.Core.Path.{_≡_, refl, ap, _∙_}
 use mathlib.Core.List.{List, [], _∷_, _++_, map, append-nil}
 use mathlib.Core.Bool.{Bool, true, false, cond}
-use lib.Dec.{lit<}
 use lib.ListN.{length}
 use Rattle.iff.specs.declared.File.{File}
-use Rattle.iff.specs.declared.File.the-variants.{Delivery, Company, Country, Trnsmode, Timezone, Stations, Footnote, Timetbls, Changes, Xfootnote, Xchanges}
 use Rattle.iff.specs.Lists.{kept}
 use Rattle.iff.specs.Tables.{Row, word, rowWidth, fill, keyWord, keysOf}
+use Rattle.tables.proofs.Widths.{widths}
 use Rattle.tables.proofs.Each.{Each}
 use Rattle.tables.proofs.Rows.{Used}
 use Rattle.tables.proofs.Filled.{rows-in-fill}
@@ -16,22 +15,9 @@ use Rattle.keys.specs.Lookup.{keysIn, isKeyRow}
 use Rattle.keys.specs.Runs.{stepRun, runOf}
 use Rattle.keys.proofs.Runs.{run-next}
 
-pub width-some : (f : File) → 0 < rowWidth f
-width-some Delivery = lit< tt
-width-some Company = lit< tt
-width-some Country = lit< tt
-width-some Trnsmode = lit< tt
-width-some Timezone = lit< tt
-width-some Stations = lit< tt
-width-some Footnote = lit< tt
-width-some Timetbls = lit< tt
-width-some Changes = lit< tt
-width-some Xfootnote = lit< tt
-width-some Xchanges = lit< tt
-
 -- a filled table names what its rows name
 pub keys-in-fill : (f : File) (n : ℕ) (rs : List Row) → Each (Used (rowWidth f)) rs → length rs * rowWidth f ≤ n → keysIn f (fill (rowWidth f) n rs) ≡ keysOf f rs
-keys-in-fill f n rs u h = ap (keysOf f) (rows-in-fill (rowWidth f) (width-some f) n rs u h)
+keys-in-fill f n rs u h = ap (keysOf f) (rows-in-fill (rowWidth f) (widths f .some) n rs u h)
 
 module _ (f : File) where
   abbrev keyIn : List Row → List ℕ

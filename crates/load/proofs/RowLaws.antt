@@ -30,7 +30,8 @@ use Rattle.records.proofs.FileLaws.{row-used, known-used}
 use Rattle.legs.proofs.RowLaws.{tag-is}
 use Rattle.timetbls.proofs.RowLaws.{block-row-length, rows-count}
 use Rattle.keys.specs.Lookup.{keysIn}
-use Rattle.keys.proofs.Fills.{width-some, keys-in-fill}
+use Rattle.tables.proofs.Widths.{widths}
+use Rattle.keys.proofs.Fills.{keys-in-fill}
 
 -- LINES THAT PASSED
 stray-fails : (b : Bool) → lineTest (strayTests b) ≡ Passes → ⊥
@@ -221,4 +222,4 @@ held-timetbls days c header (l ∷ ls) e =
 pub keys-held : (f : File) (days n : ℕ) (ls : List Line) → Held f days ls → length ls ≤ n / rowWidth f → keysIn f (fill (rowWidth f) n (rowsOfLines days f ls)) ≡ keysOf f (rowsOfLines days f ls)
 keys-held f days n ls h r =
     let g : length (rowsOfLines days f ls) ≤ n / rowWidth f = omega (arith, h .few-rows) in
-    keys-in-fill f n (rowsOfLines days f ls) (h .used) (le-div-iff-mul-le (width-some f) .0 g)
+    keys-in-fill f n (rowsOfLines days f ls) (h .used) (le-div-iff-mul-le (widths f .some) .0 g)

@@ -23,20 +23,6 @@ use Rattle.iff_rules.specs.Rows.{rowOf}
 use Rattle.tables.proofs.Rows.{Used}
 use Rattle.records.proofs.RowLaws.{words-length, padded-length}
 
--- every row has the words that the tests of its numbers read
-pub row-wide : (f : File) (n : ℕ) → n ≡ rowWidth f → 5 ≤ n
-row-wide Delivery n e = omega arith
-row-wide Company n e = omega arith
-row-wide Country n e = omega arith
-row-wide Trnsmode n e = omega arith
-row-wide Timezone n e = omega arith
-row-wide Stations n e = omega arith
-row-wide Footnote n e = omega arith
-row-wide Timetbls n e = omega arith
-row-wide Changes n e = omega arith
-row-wide Xfootnote n e = omega arith
-row-wide Xchanges n e = omega arith
-
 -- ROOM: a row has a word for the tag and for each field that leaves one
 module _ (days m : ℕ) where
   abbrev Small : Record → Type 0

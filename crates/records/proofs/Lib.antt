@@ -2,6 +2,5 @@ pub mod FieldLaws
 pub mod VectorLaws
 pub mod RowLaws
 pub mod FileLaws
-pub mod ByteLaws
 pub mod ColumnLaws
 pub mod LineLaws

@@ -6,9 +6,7 @@ use lib.Dec.{eqb}
 use lib.ListN.{getD, take, drop}
 use lib.Seq.{slice}
 use Rattle.iff.specs.Lists.{all, kept}
-use Rattle.iff.specs.Bytes.{digit, plus}
-use Rattle.iff.specs.Times.{isTime, interval}
-use Rattle.iff.specs.Tables.{Row, word, tag}
+use Rattle.iff.specs.Bytes.{digit}
 use Rattle.iff.specs.Lines.{Line}
 use Rattle.iff.specs.Columns.{Class, Letter, Number, StopNumber, NumberOrAny, Code, Marks, Text, Unread, Field, on, picture, recordFields, figures, columns}
 use Rattle.iff.specs.Values.{numberOf, codeOf, stopOf, companyOrAny, allBlank, isWildcard, fieldRight}
@@ -113,7 +111,3 @@ rightIn body fs = all (λ f. fieldRight (f .class) (columns body f)) fs
 -- the figures and codes of a part of the tables
 unfoldable pub readableIn : Spans → List ℕ → Bool
 readableIn s body = figures body (take (s .1 - s .0) (drop (s .0) pictures)) && rightIn body (slice (s .2) (s .3) fields)
-
--- the times of a stop's row
-unfoldable pub timesRight : Row → Bool
-timesRight r = cond (eqb (tag r) plus) (interval (word r 2) (word r 3)) (isTime (word r 2))

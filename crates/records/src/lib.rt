@@ -1,24 +1,20 @@
-// One line of one record: its layout, its figures and codes, the row that it leaves, and what the row's numbers must be.
+// One line of one record: its layout, its figures and codes, and the row that it leaves.
 // The columns of the records are data here as they are in the crate `iff`: two tables, and for each record its part of them. What a
 // function does it does for every record, and is proved once. Only the vector, which is as wide as there are days, has functions of its own.
 ghost use mathlib.Core.Path.{_≡_};
 ghost use mathlib.Core.Bool.{true, false, _||_};
-ghost use mathlib.Core.List.{List, [], _∷_};
-ghost use Prim.Native.Nat.{ℕ, suc, _+_, _-_, _*_, _≤_, _<_};
+ghost use mathlib.Core.List.{[], _∷_};
+ghost use Prim.Native.Nat.{_+_, _-_, _*_, _≤_, _<_};
 ghost use lib.ListN.{length, take, drop, replicate};
 ghost use lib.Seq.{slice};
 ghost use Rattle.iff.specs.Bytes.{digit, zeroOrOne};
-ghost use Rattle.iff.specs.Lists.{all, has};
+ghost use Rattle.iff.specs.Lists.{all};
 ghost use Rattle.iff.specs.Refusals.{orTest, unless};
 ghost use Rattle.iff.specs.Columns.{recordFields, recordOf, blockRecord, picture, fits, laid, figures, columns};
 ghost use Rattle.iff.specs.Values.{readable, words, fieldRight, fieldWords, isWildcard, stopOf, bits, vectorWords, vectorWidth};
-ghost use Rattle.iff.specs.Tables.{rowWidth, padded};
-ghost use Rattle.iff.specs.declared.File.{File};
-ghost use Rattle.iff.specs.declared.File.the-variants.{Company, Country, Timezone, Changes};
+ghost use Rattle.iff.specs.Tables.{padded};
 ghost use Rattle.iff.specs.declared.Reason.the-variants.{Layout, Value};
-ghost use Rattle.iff_rules.specs.Order.{tagOf, vectorTag, known, isStop};
-ghost use Rattle.iff_rules.specs.Meaning.{meaning, firstMeaning, blockMeaning};
-ghost use Rattle.records.specs.Layouts.{lineOf, pictures, fields, fieldAt, spansOf, wordBy, rightBy, rightIn, readableIn, timesRight};
+ghost use Rattle.records.specs.Layouts.{lineOf, pictures, fields, fieldAt, spansOf, wordBy, rightBy, rightIn, readableIn};
 ghost use Rattle.records.specs.Facts.{Legible, EntryOf, Sound, Entries, SpansIn};
 
 // The columns of every record but the vector, a mark for each: `l` the letter, `n` a number, `a` a company or the wildcard, `c` a code, `t` text,
@@ -249,20 +245,6 @@ fn entry_at(j: usize) -> Entry
 
 // Records by letter.
 
-// A byte is one of some.
-fn has_byte(bytes: &[u8], b: u8) -> bool
-    ensures { λ r. ⌜ r ≡ has b (now (bytes .entry)) ⌝ }
-{
-    let mut i: usize = 0;
-    while i < bytes.len() {
-        if b == bytes[i] {
-            return true;
-        }
-        i += 1;
-    }
-    false
-}
-
 // A record of a TIMETBLS block; what has no letter of its own is a stop.
 fn block_record(letter: u8) -> iff::Record
     ensures { λ r. ⌜ r ≡ blockRecord letter ⌝ }
@@ -317,55 +299,6 @@ pub fn record_of(file: iff::File, letter: u8) -> iff::Record
         } else {
             iff::Record::ChangeException
         },
-    }
-}
-
-// The tag of a row of a vectors' file: a vector has no letter.
-fn vector_tag(letter: u8) -> u64
-    ensures { λ r. ⌜ r ≡ vectorTag letter ⌝ }
-{
-    match letter {
-        b'#' => 35,
-        b'@' => 64,
-        _ => 1,
-    }
-}
-
-// The first word of a row: the letter, or 1 where the record has none.
-pub fn tag_of(file: iff::File, letter: u8) -> u64
-    ensures { λ r. ⌜ r ≡ tagOf file letter ⌝ }
-{
-    match file {
-        iff::File::Delivery => 1,
-        iff::File::Company => 1,
-        iff::File::Country => 1,
-        iff::File::Trnsmode => 1,
-        iff::File::Timezone => letter as u64,
-        iff::File::Stations => 1,
-        iff::File::Footnote => vector_tag(letter),
-        iff::File::Timetbls => letter as u64,
-        iff::File::Changes => letter as u64,
-        iff::File::Xfootnote => vector_tag(letter),
-        iff::File::Xchanges => letter as u64,
-    }
-}
-
-// A first byte that a file knows; a file without record letters knows none.
-pub fn is_known(file: iff::File, letter: u8) -> bool
-    ensures { λ r. ⌜ r ≡ known file letter ⌝ }
-{
-    match file {
-        iff::File::Delivery => false,
-        iff::File::Company => false,
-        iff::File::Country => false,
-        iff::File::Trnsmode => false,
-        iff::File::Timezone => has_byte(b"@#+-", letter),
-        iff::File::Stations => false,
-        iff::File::Footnote => has_byte(b"@#01", letter),
-        iff::File::Timetbls => has_byte(b"@#%-&*>.+;<?", letter),
-        iff::File::Changes => has_byte(b"@#-", letter),
-        iff::File::Xfootnote => has_byte(b"@#01", letter),
-        iff::File::Xchanges => has_byte(b"@#-", letter),
     }
 }
 
@@ -610,118 +543,4 @@ pub fn put_words(record: iff::Record, tag: u64, days: usize, n: u64, line: &[u8]
     let first = s.2;
     let end = s.3;
     put_fields(tag, n, line, first, end, out);
-}
-
-// What a row's numbers must be.
-
-// Two days in turn, 800 days at most.
-pub fn first_means(row: &[u64]) -> bool
-    requires { ⌜ 5 ≤ length (now row) ⌝ }
-    ensures { λ r. ⌜ r ≡ firstMeaning (now (row .entry)) ⌝ }
-{
-    let first = row[2];
-    let last = row[3];
-    if !calendar::is_period(first, last) {
-        return false;
-    }
-    calendar::span(first, last) <= 800
-}
-
-// Number 1 or more, and a day turn.
-fn company_means(row: &[u64]) -> bool
-    requires { ⌜ 5 ≤ length (now row) ⌝ }
-    ensures { λ r. ⌜ r ≡ meaning Company 0 (now (row .entry)) ⌝ }
-{
-    if row[1] < 1 {
-        return false;
-    }
-    calendar::is_turn(row[2])
-}
-
-// Inland is 0 or 1.
-fn country_means(row: &[u64]) -> bool
-    requires { ⌜ 5 ≤ length (now row) ⌝ }
-    ensures { λ r. ⌜ r ≡ meaning Country 0 (now (row .entry)) ⌝ }
-{
-    row[2] <= 1
-}
-
-// A period's days in turn.
-fn zone_means(row: &[u64]) -> bool
-    requires { ⌜ 5 ≤ length (now row) ⌝ }
-    ensures { λ r. ⌜ r ≡ meaning Timezone 0 (now (row .entry)) ⌝ }
-{
-    if row[0] == 35 {
-        return true;
-    }
-    calendar::is_period(row[2], row[3])
-}
-
-// Possibility is 00, 01 or 02.
-fn pair_means(row: &[u64]) -> bool
-    requires { ⌜ 5 ≤ length (now row) ⌝ }
-    ensures { λ r. ⌜ r ≡ meaning Changes 0 (now (row .entry)) ⌝ }
-{
-    if row[0] == 35 {
-        return true;
-    }
-    row[3] <= 2
-}
-
-// `>`, `.`, `+`, `<`
-fn is_stop(tag: u64) -> bool
-    ensures { λ r. ⌜ r ≡ isStop tag ⌝ }
-{
-    match tag {
-        62 => true,
-        46 => true,
-        43 => true,
-        60 => true,
-        _ => false,
-    }
-}
-
-// A stop's time, or two times where it is an interval.
-fn stop_means(row: &[u64]) -> bool
-    requires { ⌜ 5 ≤ length (now row) ⌝ }
-    ensures { λ r. ⌜ r ≡ timesRight (now (row .entry)) ⌝ }
-{
-    if row[0] == 43 {
-        return calendar::is_interval(row[2], row[3]);
-    }
-    calendar::is_time(row[2])
-}
-
-// A record of a block: 998 stops at most, and their times.
-fn block_means(stops: usize, row: &[u64]) -> bool
-    requires { ⌜ 5 ≤ length (now row) ⌝ }
-    ensures { λ r. ⌜ r ≡ blockMeaning stops (now (row .entry)) ⌝ }
-{
-    if !is_stop(row[0]) {
-        return true;
-    }
-    if 998 <= stops {
-        return false;
-    }
-    stop_means(row)
-}
-
-// A row's numbers, after `count` rows of its file, or stops of its block.
-pub fn row_means(file: iff::File, count: usize, row: &[u64]) -> bool
-    requires { ⌜ length (now row) ≡ rowWidth file ⌝ }
-    ensures { λ r. ⌜ r ≡ meaning file count (now (row .entry)) ⌝ }
-{
-    match file {
-        iff::File::Delivery => true,
-        iff::File::Company => company_means(row),
-        iff::File::Country => country_means(row),
-        iff::File::Trnsmode => count < 64,
-        iff::File::Timezone => zone_means(row),
-        iff::File::Stations => true,
-        iff::File::Footnote => true,
-        iff::File::Timetbls => block_means(count, row),
-        iff::File::Changes => pair_means(row),
-        iff::File::Xfootnote => true,
-        iff::File::Xchanges => true,
-    }
 }

@@ -1,5 +1,5 @@
 -- Every file's row has some words, few of them, and its key among them. A law of the definitions alone. Assumes nothing.
-use Prim.Native.Nat.{_<_}
+use Prim.Native.Nat.{_≤_, _<_}
 use native.Mathlib.Omega.{arith}
 use Rattle.iff.specs.Tables.{rowWidth, keyWord}
 use Rattle.iff.specs.declared.File.{File}
@@ -7,6 +7,7 @@ use Rattle.iff.specs.declared.File.the-variants.{Delivery, Company, Country, Tr
 
 pub record Widths (f : File) : Type 0 where
   pub some : 0 < rowWidth f
+  pub wide : 6 ≤ rowWidth f
   pub few : rowWidth f < 15
   pub key : keyWord f < rowWidth f
 

@@ -217,7 +217,7 @@ fn stray_test(text: &[u8], from: usize) -> iff::Test
     if letter == b'#' {
         return iff::Test::Passes;
     }
-    if records::is_known(iff::File::Timetbls, letter) {
+    if order::is_known(iff::File::Timetbls, letter) {
         return iff::Test::Fails(iff::Reason::Order);
     }
     iff::Test::Fails(iff::Reason::Layout)

@@ -6,7 +6,6 @@ use borrow.Author.Needs.{needs}
 use borrow.Author.Tests.{not-true, not-false}
 use Rattle.iff.specs.Refusals.{firstTest}
 use Rattle.tables.proofs.Widths.{widths}
-use Rattle.keys.proofs.Lookup.{key-inside}
 use Rattle.files.proofs.PlainLaws.{rowTests, row-test-is}
 use Rattle.files.proofs.plain_row_test.Statement.{statement}
 use Rattle.files.proofs.plain_row_test.Tie as tie
@@ -75,10 +74,10 @@ plain-row-test-spec =
     (λ c κs. search needs)
     (λ c.
     let a = c .before .before .before .before .before .before .before .before .before in
-    omega (arith, key-inside (a .args .file), widths (a .args .file) .few, c .key-word .ensures))
+    omega (arith, widths (a .args .file) .key, widths (a .args .file) .few, c .key-word .ensures))
     (λ c.
     let a = c .before .before .before .before .before .before .before .before .before .before in
-    omega (arith, key-inside (a .args .file), c .before .key-word .ensures, a .pre .width))
+    omega (arith, widths (a .args .file) .key, c .before .key-word .ensures, a .pre .width))
     (λ c κs. c .before .before .before .before .before .before .before .before .before .before .pre .runs)
     returns-2
     (λ c κs. search needs)

@@ -4,7 +4,6 @@ use native.Mathlib.Omega.{arith}
 use borrow.Author.Needs.{needs}
 use Rattle.files.specs.Tests.{asLine}
 use Rattle.tables.proofs.Widths.{widths}
-use Rattle.keys.proofs.Lookup.{key-inside}
 use Rattle.files.proofs.PlainLaws.{row-refused, row-stored}
 use Rattle.files.proofs.store_row.Statement.{statement}
 use Rattle.files.proofs.store_row.Tie as tie
@@ -32,10 +31,10 @@ store-row-spec =
     (λ c κs. let a = c .before .before .before .before .before .before .before .before .before .before .before .before in (refl, rw (a .pre .0 .width) (a .pre .1 .room)))
     (λ c.
     let a = c .before .before .before .before .before .before .before .before .before .before .before .before .before .before .before in
-    omega (arith, key-inside (a .args .file), widths (a .args .file) .few, c .before .before .before .before .key-word .ensures))
+    omega (arith, widths (a .args .file) .key, widths (a .args .file) .few, c .before .before .before .before .key-word .ensures))
     (λ c.
     let a = c .before .before .before .before .before .before .before .before .before .before .before .before .before .before .before .before in
-    omega (arith, key-inside (a .args .file), a .pre .0 .width, c .before .before .before .before .before .key-word .ensures))
+    omega (arith, widths (a .args .file) .key, a .pre .0 .width, c .before .before .before .before .before .key-word .ensures))
     (λ c. search needs)
     returns
     (λ c. returns-2 c .kept)

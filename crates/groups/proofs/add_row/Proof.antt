@@ -3,7 +3,7 @@ use mathlib.Core.Path.{refl, _∙_}
 use native.Mathlib.Omega.{arith}
 use borrow.Author.Needs.{needs}
 use Rattle.groups.proofs.StepLaws.{step-no, step-goes}
-use Rattle.groups.proofs.LineLaws.{width-least}
+use Rattle.tables.proofs.Widths.{widths}
 use Rattle.groups.proofs.add_row.Statement.{statement}
 use Rattle.groups.proofs.add_row.Tie as tie
 
@@ -11,10 +11,10 @@ put-row-requires : tie.Need-put-row-requires
 put-row-requires c κs = (refl, rw (c .before .before .before .before .before .before .test-row .ensures .kept ∙ c .before .before .before .before .before .before .before .before .before .before .before .before .before .before .before .before .before .pre .1) (c .before .before .before .before .before .before .before .before .before .before .before .before .before .before .before .before .before .pre .0 .room))
 
 slice-read-run-after : tie.Need-slice-read-run-after
-slice-read-run-after c = omega (arith, width-least (c .before .before .before .before .before .before .before .before .before .before .before .before .before .before .before .before .before .before .before .before .before .args .file), c .before .before .before .before .before .before .before .before .before .before .test-row .ensures .kept, c .before .before .before .before .before .before .before .before .before .before .before .before .before .before .before .before .before .before .before .before .before .pre .1)
+slice-read-run-after c = omega (arith, widths (c .before .before .before .before .before .before .before .before .before .before .before .before .before .before .before .before .before .before .before .before .before .args .file) .wide, c .before .before .before .before .before .before .before .before .before .before .test-row .ensures .kept, c .before .before .before .before .before .before .before .before .before .before .before .before .before .before .before .before .before .before .before .before .before .pre .1)
 
 slice-read-run-after-2 : tie.Need-slice-read-run-after-2
-slice-read-run-after-2 c = omega (arith, width-least (c .before .before .before .before .before .before .before .before .before .before .before .before .before .before .before .before .before .before .before .before .before .before .args .file), c .before .before .before .before .before .before .before .before .before .before .before .test-row .ensures .kept, c .before .before .before .before .before .before .before .before .before .before .before .before .before .before .before .before .before .before .before .before .before .before .pre .1)
+slice-read-run-after-2 c = omega (arith, widths (c .before .before .before .before .before .before .before .before .before .before .before .before .before .before .before .before .before .before .before .before .before .before .args .file) .wide, c .before .before .before .before .before .before .before .before .before .before .before .test-row .ensures .kept, c .before .before .before .before .before .before .before .before .before .before .before .before .before .before .before .before .before .before .before .before .before .before .pre .1)
 
 add-t27 : tie.Need-add-t27
 add-t27 c = omega (arith, c .before .before .before .before .before .before .before .before .before .before .before .before .before .before .before .before .before .before .before .before .before .before .before .pre .0 .part, c .before .before .before .before .before .before .before .before .before .before .before .before .before .before .before .before .before .before .before .before .before .before .before .pre .0 .few, c .before .before .before .before .before .before .before .before .before .before .before .before .before .before .before .before .before .before .before .before .before .before .before)

@@ -1,15 +1,16 @@
 -- `groups::is_unique` meets its contract. A `#` is asked for its key, another row for clashes. Assumes nothing.
 use native.Mathlib.Omega.{arith}
 use borrow.Author.Needs.{needs}
-use Rattle.groups.proofs.LineLaws.{width-least, unique-key, unique-other}
+use Rattle.tables.proofs.Widths.{widths}
+use Rattle.groups.proofs.LineLaws.{unique-key, unique-other}
 use Rattle.groups.proofs.is_unique.Statement.{statement}
 use Rattle.groups.proofs.is_unique.Tie as tie
 
 shared-slice-read-if1 : tie.Need-shared-slice-read-if1
-shared-slice-read-if1 c = omega (arith, width-least (c .before .before .before .args .file), c .before .before .before .pre .1)
+shared-slice-read-if1 c = omega (arith, widths (c .before .before .before .args .file) .wide, c .before .before .before .pre .1)
 
 shared-slice-read-is-fresh : tie.Need-shared-slice-read-is-fresh
-shared-slice-read-is-fresh c = omega (arith, width-least (c .before .before .before .before .before .args .file), c .before .before .before .before .before .pre .1)
+shared-slice-read-is-fresh c = omega (arith, widths (c .before .before .before .before .before .args .file) .wide, c .before .before .before .before .before .pre .1)
 
 returns : tie.Need-returns
 returns c = unique-key _ (c .before .before .before .before .before .before .pre .0 .grouped) _ _ _ (c .before .before .if1 .taken) (c .is-fresh .ensures) _

@@ -1,0 +1,45 @@
+-- Each file's letters. Assumes nothing.
+use borrow.Author.Needs.{needs}
+use Rattle.iff.specs.Lists.{any}
+use Rattle.order.proofs.is_known.Statement.{statement}
+use Rattle.order.proofs.is_known.Tie as tie
+
+pub is-known-spec : {M : Type 1} → statement M
+unfolding any
+is-known-spec =
+    tie.close
+    (tie.spec
+    (λ c. search needs)
+    (λ c. search needs)
+    (λ c. search needs)
+    (λ c. search needs)
+    (λ c. search needs)
+    (λ c. search needs)
+    (λ c κs. search needs)
+    (λ c. search needs)
+    (λ c. search needs)
+    (λ c. search needs)
+    (λ c κs. search needs)
+    (λ c. search needs)
+    (λ c. search needs)
+    (λ c κs. search needs)
+    (λ c. search needs)
+    (λ c. search needs)
+    (λ c κs. search needs)
+    (λ c. search needs)
+    (λ c. search needs)
+    (λ c κs. search needs)
+    (λ c. search needs)
+    (λ c. search needs)
+    (λ c κs. search needs)
+    (λ c. rw (c .enum-told .given .1))
+    (λ c. rw (c .enum-told2 .given .1))
+    (λ c. rw (c .enum-told3 .given .1))
+    (λ c. rw (c .enum-told4 .given .1))
+    (λ c. rw (c .before .before .enum-told5 .given .1) (c .has-byte .ensures))
+    (λ c. rw (c .enum-told6 .given .1))
+    (λ c. rw (c .before .before .enum-told7 .given .1) (c .has-byte2 .ensures))
+    (λ c. rw (c .before .before .enum-told8 .given .1) (c .has-byte3 .ensures))
+    (λ c. rw (c .before .before .enum-told9 .given .1) (c .has-byte4 .ensures))
+    (λ c. rw (c .before .before .enum-told10 .given .1) (c .has-byte5 .ensures))
+    (λ c. rw (c .before .before .enum-told11 .given .1) (c .has-byte6 .ensures)))
