@@ -1,24 +1,39 @@
 //! Links the archive of the proved crates, which `rt staticlib exports` writes:
-//! into this program on x86-64, elsewhere into one for the kit's emulator.
+//! into this program on x86-64, elsewhere into one for the kit's emulator. Where
+//! `PROVED_NATIVE` is set, what `tools/native-archive` made of it for another
+//! machine is linked into this program, for timing.
 
 use std::path::{Path, PathBuf};
 use std::process::Command;
 use std::{env, process};
 
 fn main() {
-    let archive = Path::new(&variable("CARGO_MANIFEST_DIR")).join("../../target/staticlib/libexports.a");
+    let native = env::var_os("PROVED_NATIVE").is_some();
+    let (folder, maker) = match native {
+        true => ("native", "tools/native-archive"),
+        false => ("staticlib", "rt staticlib exports"),
+    };
+    let target = Path::new(&variable("CARGO_MANIFEST_DIR")).join("../../target");
+    let archive = target.join(folder).join("libexports.a");
+    println!("cargo:rerun-if-env-changed=PROVED_NATIVE");
     println!("cargo:rerun-if-changed={}", archive.display());
     println!("cargo:rerun-if-changed=src/servant.c");
+    println!("cargo:rustc-check-cfg=cfg(linked)");
     if !archive.exists() {
-        stop("The archive of the proved crates is missing: run `rt staticlib exports` at the top of the repository.");
+        stop(&format!(
+            "The archive of the proved crates is missing: run `{maker}` at the top of the repository."
+        ));
     }
     match variable("CARGO_CFG_TARGET_ARCH").as_str() {
         "x86_64" => link(&archive),
+        _ if native => link(&archive),
         machine => build_servant(&archive, &kit().join("on").join(machine).join("toolchain/bin")),
     }
 }
 
+/// The crate's `linked` is set where the load is in this program.
 fn link(archive: &Path) {
+    println!("cargo:rustc-cfg=linked");
     let folder = archive.parent().expect("the archive has a folder");
     println!("cargo:rustc-link-search=native={}", folder.display());
     println!("cargo:rustc-link-lib=static=exports");

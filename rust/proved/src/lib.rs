@@ -6,20 +6,21 @@
 //!
 //! The archive of the proved crates is for x86-64. On any other machine the
 //! load runs in a process of its own under the kit's emulator: the answers are
-//! the same, and times say nothing.
+//! the same, and times say nothing. For timing, `tools/native-archive` makes an
+//! archive for the machine itself, which is linked where `PROVED_NATIVE` is set.
 
-#[cfg(not(target_arch = "x86_64"))]
+#[cfg(not(linked))]
 mod emulated;
-#[cfg(target_arch = "x86_64")]
+#[cfg(linked)]
 mod linked;
 
-#[cfg(not(target_arch = "x86_64"))]
+#[cfg(not(linked))]
 use emulated::call;
-#[cfg(target_arch = "x86_64")]
+#[cfg(linked)]
 use linked::call;
 
 /// Whether the load runs under an emulator.
-pub const EMULATED: bool = cfg!(not(target_arch = "x86_64"));
+pub const EMULATED: bool = cfg!(not(linked));
 
 /// How many files a delivery has.
 pub const FILES: usize = 11;
