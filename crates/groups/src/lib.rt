@@ -115,6 +115,7 @@ fn row_test(
     modes: &[u64],
     stations: &[u64],
     services: &[u64],
+    places: &[u32],
     xfootnotes: &[u64],
 ) -> Test
     requires { ⌜ Beside file rows size run (now t) × (length (now row) ≡ rowWidth file) ⌝ }
@@ -134,6 +135,7 @@ fn row_test(
         modes,
         stations,
         services,
+        places,
         xfootnotes,
     ) {
         return Test::Fails(Reason::Reference);
@@ -156,6 +158,7 @@ fn test_row(
     modes: &[u64],
     stations: &[u64],
     services: &[u64],
+    places: &[u32],
     xfootnotes: &[u64],
     row: &mut [u64],
 ) -> Test
@@ -176,6 +179,7 @@ fn test_row(
             modes,
             stations,
             services,
+            places,
             xfootnotes,
         ),
     }
@@ -206,6 +210,7 @@ fn add_row(
     modes: &[u64],
     stations: &[u64],
     services: &[u64],
+    places: &[u32],
     xfootnotes: &[u64],
     row: &mut [u64],
 ) -> Step
@@ -226,6 +231,7 @@ fn add_row(
         modes,
         stations,
         services,
+        places,
         xfootnotes,
         row,
     ) {
@@ -256,6 +262,7 @@ fn add_line(
     modes: &[u64],
     stations: &[u64],
     services: &[u64],
+    places: &[u32],
     xfootnotes: &[u64],
 ) -> Step
     requires { ⌜ Beside file rows size run (now t) ⌝ }
@@ -277,6 +284,7 @@ fn add_line(
         modes,
         stations,
         services,
+        places,
         xfootnotes,
         &mut row[..w],
     )
@@ -296,6 +304,7 @@ fn group_line(
     modes: &[u64],
     stations: &[u64],
     services: &[u64],
+    places: &[u32],
     xfootnotes: &[u64],
 ) -> Step
     requires { ⌜ Beside file rows (group .size) (group .run) (now t) ⌝ }
@@ -321,6 +330,7 @@ fn group_line(
             modes,
             stations,
             services,
+            places,
             xfootnotes,
         );
     }
@@ -338,6 +348,7 @@ fn group_line(
         modes,
         stations,
         services,
+        places,
         xfootnotes,
     )
 }
@@ -354,6 +365,7 @@ fn add_groups(
     modes: &[u64],
     stations: &[u64],
     services: &[u64],
+    places: &[u32],
     xfootnotes: &[u64],
 ) -> RowsRead
     requires { ⌜ Groups file from (now text) (now t) ⌝ }
@@ -384,6 +396,7 @@ fn add_groups(
             modes,
             stations,
             services,
+            places,
             xfootnotes,
         ) {
             Step::Early => {
@@ -407,7 +420,17 @@ fn add_groups(
     RowsRead::AllRead(run.rises)
 }
 
-// The same, with the rows in use of the other tables counted before the first line, and not again.
+// Only CHANGES names services, so for another file no place is looked for.
+fn place_services(file: File, services: &[u64], used: usize, places: &mut [u32])
+    ensures { λ _. ⌜ length (now (places .exit)) ≡ length (now (places .entry)) ⌝ }
+{
+    if let File::Changes = file {
+        keys::index_services(services, used, places);
+    }
+}
+
+// The same, with the rows in use of the other tables counted before the first line, and not again, and with the places of services found then too.
+// There are 131072 slots for them, and eight more for those that the last slots are too few for.
 pub fn read_groups(
     file: File,
     days: usize,
@@ -424,6 +447,8 @@ pub fn read_groups(
     ensures { λ r. ⌜ RowsDone file days (λ c. GroupKeys c (now (companies .entry)) (now (modes .entry)) (now (stations .entry)) (now (services .entry)) (now (xfootnotes .entry))) (λ c. groupsVerdict c file (lines (drop from (now (text .entry))))) (take (rowWidth file) (now (t .entry))) (map (rowOf days file) (lines (drop from (now (text .entry))))) (now (t .entry)) (now (t .exit)) r ⌝ }
 {
     let counts = references::count_for_groups(companies, modes, stations, services, xfootnotes);
+    let mut places = [0u32; 131080];
+    place_services(file, services, counts.services, &mut places);
     add_groups(
         file,
         days,
@@ -435,6 +460,7 @@ pub fn read_groups(
         modes,
         stations,
         services,
+        &places,
         xfootnotes,
     )
 }

@@ -4,12 +4,12 @@ ghost use mathlib.Core.List.{[], _∷_};
 ghost use mathlib.Core.Bool.{true, not};
 ghost use Prim.Native.Nat.{_+_, _*_, _/_, _<_, _≤_};
 ghost use lib.Dec.{eqb};
-ghost use lib.ListN.{length, set};
+ghost use lib.ListN.{length};
 ghost use Rattle.iff.specs.Lists.{has};
 ghost use Rattle.iff.specs.Tables.{rowWidth, rowsIn, keyTag, keyWord};
 ghost use Rattle.iff.specs.declared.File.the-variants.{Timetbls};
 ghost use Rattle.keys.specs.Lookup.{keysIn, atMost, keysAmong};
-ghost use Rattle.keys.specs.Marks.{slots, slotOf, Marked};
+ghost use Rattle.keys.specs.Marks.{slots, slotOf, otherOf, withMarks, Marked};
 ghost use Rattle.keys.specs.Runs.{noKeys, stillRises, stepRun, runOf};
 
 const HASH: u64 = 35;
@@ -199,10 +199,99 @@ fn found_by_blocks(t: &[u64], used: usize, key: u64) -> bool
     false
 }
 
-// The first `used` rows of TIMETBLS name this service: found by halves where services rise, else from block to block.
-pub fn names_service(t: &[u64], used: usize, key: u64) -> bool
+// PLACES: the row of each service's `#`, as a hint. A row that it leads to is tested, so nothing rests on what stands there.
+
+// The first slot for a service. The slots after it are tried too.
+fn place_of(key: u64) -> usize
+    ensures { λ r. ⌜ r < 131072 ⌝ }
+{
+    (key % 131072) as usize
+}
+
+// A row's number out of its slot.
+fn place_row(place: u32) -> usize
+    ensures { λ r. ⌜ r ≡ place ⌝ }
+{
+    place as usize
+}
+
+// Puts a service's row into the first free slot of eight. Row 0 is the first line's, so 0 is a free slot. Where none is free, or the number is too
+// wide for a slot, the service is left out, and is searched for.
+fn put_place(places: &mut [u32], key: u64, row: usize)
+    ensures { λ _. ⌜ length (now (places .exit)) ≡ length (now (places .entry)) ⌝ }
+{
+    if row > 4294967295 {
+        return;
+    }
+    let place = row as u32;
+    let mut at = place_of(key);
+    let end = at + 8;
+    while at < end {
+        if at >= places.len() {
+            return;
+        }
+        if places[at] == 0 {
+            places[at] = place;
+            return;
+        }
+        at += 1;
+    }
+}
+
+// Puts the services of TIMETBLS into their slots, going from each `#` to the next as the search over blocks does.
+pub fn index_services(t: &[u64], used: usize, places: &mut [u32])
+    ensures { λ _. ⌜ length (now (places .exit)) ≡ length (now (places .entry)) ⌝ }
+{
+    let rows = rows_among(t, 7, used);
+    let mut i = 1;
+    while i < rows {
+        let key = tables::word_at(t, 7, i, 1);
+        put_place(places, key, i);
+        let lines = tables::word_at(t, 7, i, 2) as usize;
+        if lines == 0 {
+            return;
+        }
+        if rows - i <= lines {
+            return;
+        }
+        i += lines;
+    }
+}
+
+// A look at the slots for a service. A free one ends it: the service is in none of those after it.
+fn found_by_place(t: &[u64], used: usize, places: &[u32], key: u64) -> bool
+    ensures { λ r. ⌜ (r ≡ true → has key (keysAmong Timetbls used (now (t .entry))) ≡ true) ⌝ }
+{
+    let rows = rows_among(t, 7, used);
+    let mut at = place_of(key);
+    let end = at + 8;
+    while at < end {
+        if at >= places.len() {
+            return false;
+        }
+        let row = place_row(places[at]);
+        if row == 0 {
+            return false;
+        }
+        if row >= rows {
+            return false;
+        }
+        if tables::keyed_at(t, 7, row, HASH, 1, key) {
+            return true;
+        }
+        at += 1;
+    }
+    false
+}
+
+// The first `used` rows of TIMETBLS name this service: found at its place where there is an index, by halves where services rise, else from block to
+// block.
+pub fn names_service(t: &[u64], used: usize, places: &[u32], key: u64) -> bool
     ensures { λ r. ⌜ r ≡ has key (keysAmong Timetbls used (now (t .entry))) ⌝ }
 {
+    if found_by_place(t, used, places, key) {
+        return true;
+    }
     if found_by_halves(iff::File::Timetbls, t, used, key) {
         return true;
     }
@@ -280,29 +369,41 @@ pub fn is_fresh(file: iff::File, run: KeyRun, t: &[u64], key: u64) -> bool
 
 // MARKS
 
-// Where a key's mark stands.
+// Where a key's marks stand.
 fn slot(key: u64) -> usize
     ensures { λ r. ⌜ r ≡ slotOf key ⌝ }
 {
     (key % 262144) as usize
 }
 
+fn other_slot(key: u64) -> usize
+    ensures { λ r. ⌜ r ≡ otherOf key ⌝ }
+{
+    (262144 + key / 382 % 262144) as usize
+}
+
 // Marks a key.
 pub fn mark(marks: &mut [u8], key: u64)
     requires { ⌜ length (now marks) ≡ slots ⌝ }
-    ensures { λ _. ⌜ now (marks .exit) ≡ set (now (marks .entry)) (slotOf key) 1 ⌝ }
+    ensures { λ _. ⌜ now (marks .exit) ≡ withMarks (now (marks .entry)) key ⌝ }
 {
     let k = slot(key);
     marks[k] = 1;
+    let other = other_slot(key);
+    marks[other] = 1;
 }
 
-// A service that the table does not have yet. One without a mark is new whatever the order of the services, and without a search.
+// A service that the table does not have yet. One that lacks a mark is new whatever the order of the services, and without a search.
 pub fn is_fresh_service(marks: &[u8], run: KeyRun, t: &[u64], key: u64) -> bool
     requires { ⌜ (run ≡ runOf (keysIn Timetbls (now t))) × Marked (now marks) (keysIn Timetbls (now t)) ⌝ }
     ensures { λ r. ⌜ r ≡ not (has key (keysIn Timetbls (now (t .entry)))) ⌝ }
 {
     let k = slot(key);
     if marks[k] == 0 {
+        return true;
+    }
+    let other = other_slot(key);
+    if marks[other] == 0 {
         return true;
     }
     is_fresh(iff::File::Timetbls, run, t, key)

@@ -133,25 +133,31 @@ pub fn met_station(row: &[u64], countries: &[u64], zones: &[u64]) -> bool
     false
 }
 
-// Both services of a pair are there.
-fn met_pair(from: u64, to: u64, used: usize, services: &[u64]) -> bool
+// Both services of a pair are there. The places are a hint where to look, and may say anything.
+fn met_pair(from: u64, to: u64, used: usize, services: &[u64], places: &[u32]) -> bool
     ensures { λ r. ⌜ r ≡ (has from (keysAmong Timetbls used (now (services .entry))) && has to (keysAmong Timetbls used (now (services .entry)))) ⌝ }
 {
-    if keys::names_service(services, used, from) {
-        return keys::names_service(services, used, to);
+    if keys::names_service(services, used, places, from) {
+        return keys::names_service(services, used, places, to);
     }
     false
 }
 
 // The station of a group of CHANGES is there, and the services of a pair.
-pub fn met_change(row: &[u64], counts: GroupCounts, stations: &[u64], services: &[u64]) -> bool
+pub fn met_change(
+    row: &[u64],
+    counts: GroupCounts,
+    stations: &[u64],
+    services: &[u64],
+    places: &[u32],
+) -> bool
     requires { ⌜ length (now row) ≡ rowWidth Changes ⌝ }
     ensures { λ r. ⌜ ((c : Context) → ChangeKeysAmong c counts (now (stations .entry)) (now (services .entry)) → r ≡ met c Changes (now (row .entry))) ⌝ }
 {
     if row[0] == HASH {
         return keys::names_among(iff::File::Stations, stations, counts.stations, row[1]);
     }
-    met_pair(row[1], row[2], counts.services, services)
+    met_pair(row[1], row[2], counts.services, services, places)
 }
 
 // A company that an exception names; the wildcard is in no table.
@@ -251,13 +257,14 @@ pub fn met_group(
     modes: &[u64],
     stations: &[u64],
     services: &[u64],
+    places: &[u32],
     xfootnotes: &[u64],
 ) -> bool
     requires { ⌜ (isGroupFile file ≡ true) × (length (now row) ≡ rowWidth file) ⌝ }
     ensures { λ r. ⌜ ((c : Context) → GroupKeysAmong c counts (now (companies .entry)) (now (modes .entry)) (now (stations .entry)) (now (services .entry)) (now (xfootnotes .entry)) → r ≡ met c file (now (row .entry))) ⌝ }
 {
     match file {
-        iff::File::Changes => met_change(row, counts, stations, services),
+        iff::File::Changes => met_change(row, counts, stations, services, places),
         iff::File::Xchanges => met_exception(row, counts, companies, modes, stations, xfootnotes),
         iff::File::Delivery => true,
         iff::File::Company => true,

@@ -3,7 +3,7 @@ use Prim.Native.Nat.{ℕ, _+_, _-_, _*_, _≤_, _<_}
 use mathlib.Core.Path.{_≡_}
 use mathlib.Core.List.{List, [], _∷_, _++_}
 use mathlib.Core.Bool.{true, false}
-use lib.ListN.{length, getD, take, drop, set}
+use lib.ListN.{length, getD, take, drop}
 use Rattle.iff.specs.Lists.{front, any}
 use Rattle.iff.specs.Refusals.{verdictAt, scan}
 use Rattle.iff.specs.Lines.{Line, lines, isHash}
@@ -21,7 +21,7 @@ use Rattle.records.specs.Facts.{Legible}
 use Rattle.keys.specs.declared.KeyRun.{KeyRun}
 use Rattle.keys.specs.Lookup.{keysIn}
 use Rattle.keys.specs.Runs.{noKeys, runOf, stepRun}
-use Rattle.keys.specs.Marks.{slotOf, Marked}
+use Rattle.keys.specs.Marks.{withMarks, Marked}
 use Rattle.references.specs.declared.BlockCounts.{BlockCounts}
 use Rattle.references.specs.Agree.{BlockKeys, BlockKeysAmong}
 use Rattle.blocks.specs.declared.Checked.{Checked}
@@ -85,7 +85,7 @@ pub record BlockTested (b t : List ℕ) (counts : BlockCounts) (co mo st fo : Li
 -- A SERVICE THAT IS REMEMBERED, with its mark
 pub record Remembered (run : KeyRun) (was : List ℕ) (service : ℕ) (is : List ℕ) (r : KeyRun) : Type 0 where
   pub next : r ≡ stepRun run service
-  pub marks : is ≡ set was (slotOf service) 1
+  pub marks : is ≡ withMarks was service
 
 -- A BLOCK THAT IS ADDED
 pub record Addable (b t marks : List ℕ) (run : KeyRun) (row : ℕ) : Type 0 where

@@ -243,7 +243,7 @@ pub fn read_blocks(
         }
         iff::Test::Passes => {
             let counts = references::count_for_blocks(companies, modes, stations, footnotes);
-            let mut marks = [0u8; 262144];
+            let mut marks = [0u8; 524288];
             add_blocks(
                 text,
                 from,

@@ -10,7 +10,7 @@ slice-aggregate-add-row : tie.Need-slice-aggregate-add-row
 slice-aggregate-add-row c = sym (length-take-le _ _ (omega (arith, c .before .before .row-width .ensures .few)))
 
 add-row-requires : tie.Need-add-row-requires
-add-row-requires c κs = (c .before .before .before .before .before .before .before .before .before .before .pre, length-take-le _ _ (omega (arith, c .before .before .row-width .ensures .few)) ∙ c .before .before .row-width .ensures .is)
+add-row-requires c κs = (c .before .before .before .before .before .before .before .before .before .before .before .pre, length-take-le _ _ (omega (arith, c .before .before .row-width .ensures .few)) ∙ c .before .before .row-width .ensures .is)
 
 pub add-line-spec : {M : Type 1} → statement M
 add-line-spec =

@@ -7,16 +7,16 @@ use Rattle.groups.proofs.group_line.Statement.{statement}
 use Rattle.groups.proofs.group_line.Tie as tie
 
 returns : tie.Need-returns
-returns c = step-early _ _ _ _ _ _ _ _ (c .before .before .before .before .before .before .before .before .before .before .before .before .pre .part) (eq-eqb _ _ (sym (c .before .before .before .first-byte .ensures) ∙ c .before .before .if1 .taken)) (sym (c .before .is-whole .ensures) ∙ not-true _ (c .if2 .taken))
+returns c = step-early _ _ _ _ _ _ _ _ (c .before .before .before .before .before .before .before .before .before .before .before .before .before .pre .part) (eq-eqb _ _ (sym (c .before .before .before .first-byte .ensures) ∙ c .before .before .if1 .taken)) (sym (c .before .is-whole .ensures) ∙ not-true _ (c .if2 .taken))
 
 add-line-requires : tie.Need-add-line-requires
-add-line-requires c κs = begin-group _ _ _ _ _ (c .before .before .before .before .before .before .before .before .before .before .before .before .before .pre)
+add-line-requires c κs = begin-group _ _ _ _ _ (c .before .before .before .before .before .before .before .before .before .before .before .before .before .before .pre)
 
 returns-2 : tie.Need-returns-2
-returns-2 c = step-opens _ _ _ _ _ _ _ _ (c .before .before .before .before .before .before .before .before .before .before .before .before .before .before .before .before .pre .part) (eq-eqb _ _ (sym (c .before .before .before .before .before .before .before .first-byte .ensures) ∙ c .before .before .before .before .before .before .if1 .taken)) (sym (c .before .before .before .before .before .is-whole .ensures) ∙ not-false _ (c .before .before .before .before .if2 .left)) _ _ (c .before .before .add-line .ensures)
+returns-2 c = step-opens _ _ _ _ _ _ _ _ (c .before .before .before .before .before .before .before .before .before .before .before .before .before .before .before .before .before .pre .part) (eq-eqb _ _ (sym (c .before .before .before .before .before .before .before .first-byte .ensures) ∙ c .before .before .before .before .before .before .if1 .taken)) (sym (c .before .before .before .before .before .is-whole .ensures) ∙ not-false _ (c .before .before .before .before .if2 .left)) _ _ (c .before .before .add-line .ensures)
 
 add-line-requires-2 : tie.Need-add-line-requires-2
-add-line-requires-2 c κs = c .before .before .before .before .before .before .before .before .before .before .before .pre
+add-line-requires-2 c κs = c .before .before .before .before .before .before .before .before .before .before .before .before .pre
 
 returns-3 : tie.Need-returns-3
 returns-3 c = step-joins _ _ _ _ _ _ _ _ (ne-eqb _ _ (λ e. c .before .before .before .before .if1 .left (c .before .before .before .before .before .first-byte .ensures ∙ e))) _ _ (c .before .before .add-line2 .ensures)

@@ -1,5 +1,8 @@
--- `is_fresh_service` meets its contract: what has no mark has not come. Assumes nothing.
+-- `is_fresh_service` meets its contract: what lacks a mark has not come. Assumes nothing.
 use borrow.Author.Needs.{needs}
+use Rattle.iff.specs.declared.File.the-variants.{Timetbls}
+use Rattle.keys.specs.Lookup.{keysIn}
+use Rattle.keys.specs.Marks.{slotOf, otherOf}
 use Rattle.keys.proofs.MarkLaws.{unmarked}
 use Rattle.keys.proofs.is_fresh_service.Statement.{statement}
 use Rattle.keys.proofs.is_fresh_service.Tie as tie
@@ -7,7 +10,22 @@ use Rattle.keys.proofs.is_fresh_service.Tie as tie
 returns : tie.Need-returns
 returns c =
     let s = c .before .before .before .before .before in
-    unmarked _ _ (s .args .key) (s .pre .1) (rw (← (c .before .before .slot .ensures)) (c .if1 .taken))
+    unmarked (s .args .marks .now) (keysIn Timetbls (s .args .t .now)) (s .args .key) (slotOf (s .args .key)) (s .pre .1 .one (s .args .key)) (rw (← (c .before .before .slot .ensures)) (c .if1 .taken))
+
+returns-2 : tie.Need-returns-2
+returns-2 c =
+    let s = c .before .before .before .before .before .before .before .before in
+    unmarked (s .args .marks .now) (keysIn Timetbls (s .args .t .now)) (s .args .key) (otherOf (s .args .key)) (s .pre .1 .other (s .args .key)) (rw (← (c .before .before .other-slot .ensures)) (c .if2 .taken))
 
 pub is-fresh-service-spec : {M : Type 1} → statement M
-is-fresh-service-spec = tie.close (tie.spec (λ c κs. search needs) (λ c. search needs) returns (λ c κs. search needs) (λ c. search needs))
+is-fresh-service-spec =
+    tie.close
+    (tie.spec
+    (λ c κs. search needs)
+    (λ c. search needs)
+    returns
+    (λ c κs. search needs)
+    (λ c. search needs)
+    returns-2
+    (λ c κs. search needs)
+    (λ c. search needs))

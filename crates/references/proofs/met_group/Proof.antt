@@ -7,10 +7,10 @@ use Rattle.references.proofs.met_group.Statement.{statement}
 use Rattle.references.proofs.met_group.Tie as tie
 
 met-change-requires : tie.Need-met-change-requires
-met-change-requires c κs = as-width _ _ (c .enum-told .given .1) _ (c .before .before .before .before .before .before .before .before .pre .1)
+met-change-requires c κs = as-width _ _ (c .enum-told .given .1) _ (c .before .before .before .before .before .before .before .before .before .pre .1)
 
 met-exception-requires : tie.Need-met-exception-requires
-met-exception-requires c κs = as-width _ _ (c .enum-told2 .given .1) _ (c .before .before .before .before .before .before .before .before .pre .1)
+met-exception-requires c κs = as-width _ _ (c .enum-told2 .given .1) _ (c .before .before .before .before .before .before .before .before .before .pre .1)
 
 returns : tie.Need-returns
 returns c k a =
@@ -41,12 +41,12 @@ met-group-spec =
     (λ c. search needs)
     returns
     returns-2
-    (λ c k a. group-only _ _ (c .enum-told3 .given .1) (c .before .before .before .before .before .before .before .before .pre .0) refl)
-    (λ c k a. group-only _ _ (c .enum-told4 .given .1) (c .before .before .before .before .before .before .before .before .pre .0) refl)
-    (λ c k a. group-only _ _ (c .enum-told5 .given .1) (c .before .before .before .before .before .before .before .before .pre .0) refl)
-    (λ c k a. group-only _ _ (c .enum-told6 .given .1) (c .before .before .before .before .before .before .before .before .pre .0) refl)
+    (λ c k a. group-only _ _ (c .enum-told3 .given .1) (c .before .before .before .before .before .before .before .before .before .pre .0) refl)
+    (λ c k a. group-only _ _ (c .enum-told4 .given .1) (c .before .before .before .before .before .before .before .before .before .pre .0) refl)
+    (λ c k a. group-only _ _ (c .enum-told5 .given .1) (c .before .before .before .before .before .before .before .before .before .pre .0) refl)
+    (λ c k a. group-only _ _ (c .enum-told6 .given .1) (c .before .before .before .before .before .before .before .before .before .pre .0) refl)
     (λ c k a. names-nothing _ _ (c .enum-told7 .given .1) k _ refl)
-    (λ c k a. group-only _ _ (c .enum-told8 .given .1) (c .before .before .before .before .before .before .before .before .pre .0) refl)
+    (λ c k a. group-only _ _ (c .enum-told8 .given .1) (c .before .before .before .before .before .before .before .before .before .pre .0) refl)
     (λ c k a. names-nothing _ _ (c .enum-told9 .given .1) k _ refl)
-    (λ c k a. group-only _ _ (c .enum-told10 .given .1) (c .before .before .before .before .before .before .before .before .pre .0) refl)
+    (λ c k a. group-only _ _ (c .enum-told10 .given .1) (c .before .before .before .before .before .before .before .before .before .pre .0) refl)
     (λ c k a. names-nothing _ _ (c .enum-told11 .given .1) k _ refl))
