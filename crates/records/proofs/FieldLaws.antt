@@ -6,7 +6,7 @@ use mathlib.Core.Bool.{Bool, true, false, _&&_, cond, false≢true}
 use native.Mathlib.Omega.{arith}
 use native.Mathlib.Numerals.{add-one}
 use lib.Dec.{eqb, leb}
-use lib.ListN.{length, getD, take, drop}
+use lib.ListN.{length, take, drop, List·getD-eq-default}
 use lib.Seq.{slice, slice-cons}
 use borrow.Author.Tests.{eqb-true, leb-true, eq-eqb, ne-eqb}
 use Rattle.text.proofs.PictureLaws.{and-left, and-right, same-length}
@@ -18,7 +18,7 @@ use Rattle.iff.specs.declared.Record.the-variants.{FirstRecord, CompanyRow, Cou
 use Rattle.records.specs.declared.Spans.{Spans}
 use Rattle.records.specs.declared.Entry.{Entry}
 use Rattle.records.specs.Layouts.{each, pictures, fields, noField, fieldAt, leaves, leaving, spansOf, isVector, byteOf, wordBy, rightBy, rightIn, readableIn}
-use Rattle.records.specs.Facts.{EntryOf, Sound, sound, Entries, SpansIn}
+use Rattle.records.specs.Facts.{EntryOf, Sound, sound, Entries, SpansFit}
 
 -- WHAT LEAVES NO WORD
 silent : (n : ℕ) (k : Class) (s : List ℕ) → leaves k ≡ false → fieldWords n k s ≡ []
@@ -87,49 +87,32 @@ right-by Marks s e = absurd (omega arith)
 right-by Text s e = absurd (omega arith)
 right-by Unread s e = absurd (omega arith)
 
--- THE TABLE OF FIELDS
--- what a table tells of each field
-unfoldable pub told : (Field → ℕ) → List Field → List ℕ
-told g [] = []
-told g (f ∷ fs) = g f ∷ told g fs
-
-module _ (d : Field) where
-  told-at : (g : Field → ℕ) (z : ℕ) (fs : List Field) (j : ℕ) → j < length fs → getD (told g fs) j z ≡ g (getD fs j d)
-  unfolding told
-  told-at g z [] j h = absurd (omega arith)
-  told-at g z (f ∷ fs) zero h = refl
-  told-at g z (f ∷ fs) (suc j) h = told-at g z fs j (omega arith)
-
-  -- a test of all entries
-  pub each-at : (p : Field → Bool) (fs : List Field) → all p fs ≡ true → (j : ℕ) → j < length fs → p (getD fs j d) ≡ true
-  unfolding all
-  each-at p [] e j h = absurd (omega arith)
-  each-at p (f ∷ fs) e zero h = and-left (p f) _ e
-  each-at p (f ∷ fs) e (suc j) h = each-at p fs (and-right (p f) _ e) j (omega arith)
-
+-- THE FIELDS, BY NUMBER
 pub table-length : length fields ≡ 51
 unfolding fields each kept recordFields
 table-length = refl
 
--- columns count from 1
-counted : all (λ f. leb 1 (f .from)) fields ≡ true
-unfolding fields each kept recordFields all
-counted = refl
+-- the entry that says what field j is; columns count from 1
+pub entry-is : (j : ℕ) → leb 1 (fieldAt j .from) ≡ true → EntryOf j (record { 0 = fieldAt j .from; 1 = fieldAt j .width; 2 = byteOf (fieldAt j .class) })
+entry-is j l = record { begins = refl; low = leb-true 1 _ l; wide = refl; classed = refl }
 
-from-one : (j : ℕ) → j < 51 → 1 ≤ fieldAt j .from
-from-one j h = leb-true 1 (fieldAt j .from) (each-at noField (λ f. leb 1 (f .from)) fields counted j (rw table-length h))
+-- a number that is none of those below n
+abbrev pub NoneOf : ℕ → ℕ → Type 0
+NoneOf zero j = Unit {0}
+NoneOf (suc n) j = NoneOf n j × (j ≡ n → ⊥)
 
-pub entry-of : (a b c j first width : ℕ) → j < 51 → first ≡ getD (told (λ f. f .from) fields) j a → width ≡ getD (told (λ f. f .width) fields) j b
-    → EntryOf j (record { 0 = first; 1 = width; 2 = getD (told (λ f. byteOf (f .class)) fields) j c })
-entry-of a b c j first width h p q =
-    let l : j < length fields = rw table-length h in
-    let e = p ∙ told-at noField (λ f. f .from) a fields j l in
-    record {
-      begins = e;
-      low = rw e (from-one j h);
-      wide = q ∙ told-at noField (λ f. f .width) b fields j l;
-      classed = told-at noField (λ f. byteOf (f .class)) c fields j l;
-    }
+past : (n j : ℕ) → NoneOf n j → n ≤ j
+past zero j h = omega arith
+past (suc n) j h =
+    let p = past n j (h .0) in
+    let q = h .1 in
+    omega arith
+
+-- is beyond the last field, where an empty one stands
+pub entry-beyond : (j : ℕ) → NoneOf 51 j → EntryOf j (record { 0 = 1; 1 = 0; 2 = 99 })
+entry-beyond j h =
+    let e : fieldAt j ≡ noField = List·getD-eq-default fields noField (rw table-length (past 51 j h)) in
+    rw e at (entry-is j (rw e))
 
 -- SOUND ENTRIES, one after the other
 pub is-sound : (room : ℕ) (f : Field) → sound room f ≡ true → Sound room f
@@ -256,8 +239,8 @@ module _ (days : ℕ) (r : Record) (s : Spans) (p : Placed days r s) (body : Lis
       let n : length body ≡ length (picture (recordFields days r)) = same-length column _ _ f in
       record { inTurn = p .inTurn; inTable = p .inTable; allSound = rw n (p .soundly) }
 
-  pub spans-in : fits body (picture (recordFields days r)) ≡ true → SpansIn s body
-  spans-in f = record { low = p .low; top = p .top; entries = entries-in f }
+  pub spans-fit : SpansFit s body
+  spans-fit = record { low = p .low; top = p .top; fitted = λ f. entries-in (sym (ap (fits body) (p .pictured)) ∙ f) }
 
   pub readable-in : readableIn s body ≡ readable body (recordFields days r)
   unfolding readableIn readable rightIn

@@ -10,18 +10,20 @@ use Rattle.text.proofs.PictureLaws.{and-right}
 use Rattle.iff.specs.Bytes.{zeroOrOne}
 use Rattle.iff.specs.Lists.{all}
 use Rattle.iff.specs.Refusals.{orTest, unless}
-use Rattle.iff.specs.Columns.{fits, picture, laid, recordFields}
+use Rattle.iff.specs.Columns.{Field, fits, picture, laid, recordFields}
 use Rattle.iff.specs.Values.{readable, words, wordCount, vectorWords, vectorWidth}
 use Rattle.iff.specs.Tables.{padded}
 use Rattle.iff.specs.declared.Record.{Record}
 use Rattle.iff.specs.declared.Record.the-variants.{FootnoteVector}
+use Rattle.iff.specs.declared.Reason.{Reason}
 use Rattle.iff.specs.declared.Reason.the-variants.{Layout, Value}
 use Rattle.iff.specs.declared.Test.{Test}
 use Rattle.iff.specs.declared.Test.the-variants.{Passes, Fails}
 use Rattle.records.specs.declared.Spans.{Spans}
-use Rattle.records.specs.Layouts.{lineOf, pictures, fields, spansOf, readableIn}
-use Rattle.records.specs.Facts.{Legible, Entries, SpansIn}
-use Rattle.records.proofs.FieldLaws.{Placed, fixed-place, is-vector, entries-in, spans-in, readable-in, words-in}
+use Rattle.records.specs.declared.Looks.{Looks}
+use Rattle.records.specs.Layouts.{lineOf, pictures, fields, spansOf, rightIn, pictureIn, readableIn, inOrder}
+use Rattle.records.specs.Facts.{Legible, LooksBy, Entries, SpansFit}
+use Rattle.records.proofs.FieldLaws.{Placed, fixed-place, is-vector, entries-in, spans-fit, readable-in, words-in}
 use Rattle.records.proofs.VectorLaws.{vector-picture, vector-readable, vector-words-in}
 
 module _ (days : ℕ) (r : Record) (s : Spans) (e : s ≡ spansOf r) (body : List ℕ) where
@@ -33,20 +35,33 @@ module _ (days : ℕ) (r : Record) (s : Spans) (e : s ≡ spansOf r) (body : Lis
       → fits body (take (s .1 - s .0) (drop (s .0) pictures)) ≡ laid (lineOf body ended) (recordFields days r)
   laid-fixed ended t z = rw (t, fixed-place days r s e z .pictured)
 
-  -- FIGURES AND CODES
+  -- MARKS
   module _ (f : fits body (picture (recordFields days r)) ≡ true) where
     -- so it fits the vector's, if it is one
     as-vector : s .1 ≡ 0 → fits body (picture (recordFields days FootnoteVector)) ≡ true
     as-vector z = rw (is-vector days r s e z) at f
 
-    pub read-vector : s .1 ≡ 0 → all zeroOrOne body ≡ readable body (recordFields days r)
+    read-vector : s .1 ≡ 0 → all zeroOrOne body ≡ readable body (recordFields days r)
     read-vector z = vector-readable days body (as-vector z) ∙ ap (readable body) (sym (is-vector days r s e z))
 
-    pub read-spans : (s .1 ≡ 0 → ⊥) → SpansIn s body
-    read-spans z = spans-in days r s (fixed-place days r s e z) body f
+  -- LAYOUT BEFORE VALUE
+  pub fixed-fit : (s .1 ≡ 0 → ⊥) → SpansFit s body
+  fixed-fit z = spans-fit days r s (fixed-place days r s e z) body
 
-    pub read-fixed : (s .1 ≡ 0 → ⊥) → readableIn s body ≡ readable body (recordFields days r)
-    read-fixed z = readable-in days r s (fixed-place days r s e z) body
+  pub order-fixed : (ended : Bool) → ended ≡ true → (s .1 ≡ 0 → ⊥)
+      → inOrder (fits body (pictureIn s)) (readableIn s body) ≡ inOrder (laid (lineOf body ended) (recordFields days r)) (readable body (recordFields days r))
+  order-fixed ended t z =
+      ap (λ b. inOrder b (readableIn s body)) (laid-fixed ended t z)
+      ∙ ap (inOrder (laid (lineOf body ended) (recordFields days r))) (readable-in days r s (fixed-place days r s e z) body)
+
+  -- the marks of a vector say nothing where it does not fit, and need not
+  pub order-vector : (ended : Bool) → ended ≡ true → s .1 ≡ 0
+      → inOrder (fits body (replicate days 109)) (all zeroOrOne body) ≡ inOrder (laid (lineOf body ended) (recordFields days r)) (readable body (recordFields days r))
+  order-vector ended t z = ap (λ b. inOrder b (all zeroOrOne body)) (laid-vector ended t z) ∙ go (laid (lineOf body ended) (recordFields days r)) refl
+    where
+      go : (b : Bool) → laid (lineOf body ended) (recordFields days r) ≡ b → inOrder b (all zeroOrOne body) ≡ inOrder b (readable body (recordFields days r))
+      go true q = ap (inOrder true) (read-vector (and-right ended _ q) z)
+      go false q = refl
 
   -- ROWS
   module _ (room : ℕ) (p : Legible days r body room) where
@@ -69,6 +84,40 @@ module _ (days : ℕ) (r : Record) (s : Spans) (e : s ≡ spansOf r) (body : Lis
 
     pub fields-row : (s .1 ≡ 0 → ⊥) → (n tag : ℕ) → padded room (tag ∷ words n body (slice (s .2) (s .3) fields)) ≡ padded room (tag ∷ words n body (recordFields days r))
     fields-row z n tag = ap (λ (ws : List ℕ). padded room (tag ∷ ws)) (words-in days r s (fixed-place days r s e z) body n)
+
+-- THE TESTS OF FIXED COLUMNS, in order
+module _ (s : Spans) (body : List ℕ) (l : Looks) (k : LooksBy body (pictureIn s) l) where
+  pub unfit : l .0 ≡ false → Fails Layout ≡ inOrder (fits body (pictureIn s)) (readableIn s body)
+  unfit f = rw (← k .fitting, f)
+
+  module _ (f : l .0 ≡ true) where
+    pub unfigured : l .1 ≡ false → Fails Value ≡ inOrder (fits body (pictureIn s)) (readableIn s body)
+    unfolding readableIn
+    unfigured g = rw (← k .fitting, f, ← k .figured, g)
+
+    pub in-fields : l .1 ≡ true → {b : Bool} → rightIn body (slice (s .2) (s .3) fields) ≡ b
+        → unless b Value ≡ inOrder (fits body (pictureIn s)) (readableIn s body)
+    unfolding readableIn
+    in-fields g h = rw (← k .fitting, f, ← k .figured, g, h)
+
+-- A LINE THAT HAS ITS LAYOUT fails by its values alone
+module _ (body : List ℕ) (fs : List Field) (f : fits body (picture fs) ≡ true) (t : Test) (e : t ≡ inOrder (laid (lineOf body true) fs) (readable body fs)) where
+  by-value : t ≡ unless (readable body fs) Value
+  by-value = e ∙ rw f
+
+  pub read-passes : t ≡ Passes → true ≡ readable body fs
+  read-passes p = go (readable body fs) (sym p ∙ by-value)
+    where
+      go : (b : Bool) → Passes ≡ unless b Value → true ≡ b
+      go true q = refl
+      go false q = absurd (let z : _≡_ {A = ℕ} 0 1 = cc in omega arith)
+
+  pub read-fails : (why : Reason) → t ≡ Fails why → false ≡ readable body fs
+  read-fails why p = go (readable body fs) (sym p ∙ by-value)
+    where
+      go : (b : Bool) → Fails why ≡ unless b Value → false ≡ b
+      go true q = absurd (let z : _≡_ {A = ℕ} 0 1 = cc in omega arith)
+      go false q = refl
 
 -- FOR CALLERS: a line that passes layout and value can be put
 pub layout-passes : (days : ℕ) (r : Record) (body : List ℕ) (ended : Bool)

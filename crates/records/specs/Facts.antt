@@ -7,12 +7,13 @@ use lib.Dec.{eqb, leb}
 use lib.ListN.{length}
 use lib.Seq.{slice}
 use Rattle.iff.specs.Lists.{all}
-use Rattle.iff.specs.Columns.{Field, picture, recordFields, fits}
+use Rattle.iff.specs.Columns.{Field, picture, recordFields, fits, figures}
 use Rattle.iff.specs.Values.{wordsOf, wordCount, readable}
 use Rattle.iff.specs.declared.Record.{Record}
 use Rattle.records.specs.declared.Entry.{Entry}
 use Rattle.records.specs.declared.Spans.{Spans}
-use Rattle.records.specs.Layouts.{fields, fieldAt, byteOf}
+use Rattle.records.specs.declared.Looks.{Looks}
+use Rattle.records.specs.Layouts.{fields, fieldAt, byteOf, pictureIn}
 
 -- a line whose words can be read, and room for them and the tag
 pub record Legible (days : ℕ) (r : Record) (body : List ℕ) (room : ℕ) : Type 0 where
@@ -26,6 +27,11 @@ pub record EntryOf (j : ℕ) (e : Entry) : Type 0 where
   pub low : 1 ≤ e .0
   pub wide : e .1 ≡ fieldAt j .width
   pub classed : e .2 ≡ byteOf (fieldAt j .class)
+
+-- a line beside a picture
+pub record LooksBy (body pic : List ℕ) (l : Looks) : Type 0 where
+  pub fitting : l .0 ≡ fits body pic
+  pub figured : l .1 ≡ figures body pic
 
 -- a field lies in a line of so many bytes, and leaves one word
 pub record Sound (room : ℕ) (f : Field) : Type 0 where
@@ -43,8 +49,8 @@ pub record Entries (first end : ℕ) (line : List ℕ) : Type 0 where
   pub inTable : end ≤ 51
   pub allSound : all (sound (length line)) (slice first end fields) ≡ true
 
--- a part of the two tables, for a line of its width
-pub record SpansIn (s : Spans) (line : List ℕ) : Type 0 where
+-- a part of the two tables, with the fields of a line that fits it
+pub record SpansFit (s : Spans) (line : List ℕ) : Type 0 where
   pub low : s .0 ≤ s .1
   pub top : s .1 ≤ 511
-  pub entries : Entries (s .2) (s .3) line
+  pub fitted : fits line (pictureIn s) ≡ true → Entries (s .2) (s .3) line

@@ -10,6 +10,9 @@ use Rattle.iff.specs.Bytes.{digit}
 use Rattle.iff.specs.Lines.{Line}
 use Rattle.iff.specs.Columns.{Class, Letter, Number, StopNumber, NumberOrAny, Code, Marks, Text, Unread, Field, on, picture, recordFields, figures, columns}
 use Rattle.iff.specs.Values.{numberOf, codeOf, stopOf, companyOrAny, allBlank, isWildcard, fieldRight}
+use Rattle.iff.specs.Refusals.{orTest, unless}
+use Rattle.iff.specs.declared.Test.{Test}
+use Rattle.iff.specs.declared.Reason.the-variants.{Layout, Value}
 use Rattle.iff.specs.declared.Record.{Record}
 use Rattle.iff.specs.declared.Record.the-variants.{FirstRecord, CompanyRow, CountryRow, ModeRow, ZoneHead, ZonePeriod, StationRow, FootnoteHead, FootnoteVector, ServiceHead, TrainNumber, Validity, Transport, Attribute, PlainStop, Interval, Passed, Platform, ChangeHead, ChangePair, ChangeException}
 use Rattle.records.specs.declared.Spans.{Spans}
@@ -108,6 +111,14 @@ rightBy k s = on k 97 (all digit s || isWildcard s) (on k 99 (not (allBlank s)) 
 unfoldable pub rightIn : List ℕ → List Field → Bool
 rightIn body fs = all (λ f. fieldRight (f .class) (columns body f)) fs
 
--- the figures and codes of a part of the tables
+-- the columns of a part of the tables
+abbrev pub pictureIn : Spans → List ℕ
+pictureIn s = take (s .1 - s .0) (drop (s .0) pictures)
+
+-- its figures and codes
 unfoldable pub readableIn : Spans → List ℕ → Bool
-readableIn s body = figures body (take (s .1 - s .0) (drop (s .0) pictures)) && rightIn body (slice (s .2) (s .3) fields)
+readableIn s body = figures body (pictureIn s) && rightIn body (slice (s .2) (s .3) fields)
+
+-- a line is laid, and then it is readable
+abbrev pub inOrder : Bool → Bool → Test
+inOrder laid readable = orTest (unless laid Layout) (unless readable Value)

@@ -1,6 +1,6 @@
 // One line of one record: its layout, its figures and codes, and the row that it leaves.
-// The columns of the records are data here as they are in the crate `iff`: two tables, and for each record its part of them. What a
-// function does it does for every record, and is proved once. Only the vector, which is as wide as there are days, has functions of its own.
+// The columns of the records are data here as they are in the crate `iff`: all pictures, all fields, and for each record its part of both. What
+// a function does it does for every record, and is proved once. Only the vector, which is as wide as there are days, has functions of its own.
 ghost use mathlib.Core.Path.{_≡_};
 ghost use mathlib.Core.Bool.{true, false, _||_};
 ghost use mathlib.Core.List.{[], _∷_};
@@ -10,12 +10,12 @@ ghost use lib.Seq.{slice};
 ghost use Rattle.iff.specs.Bytes.{digit, zeroOrOne};
 ghost use Rattle.iff.specs.Lists.{all};
 ghost use Rattle.iff.specs.Refusals.{orTest, unless};
-ghost use Rattle.iff.specs.Columns.{recordFields, recordOf, blockRecord, picture, fits, laid, figures, columns};
+ghost use Rattle.iff.specs.Columns.{recordFields, recordOf, blockRecord, picture, fits, laid, columns};
 ghost use Rattle.iff.specs.Values.{readable, words, fieldRight, fieldWords, isWildcard, stopOf, bits, vectorWords, vectorWidth};
 ghost use Rattle.iff.specs.Tables.{padded};
 ghost use Rattle.iff.specs.declared.Reason.the-variants.{Layout, Value};
-ghost use Rattle.records.specs.Layouts.{lineOf, pictures, fields, fieldAt, spansOf, wordBy, rightBy, rightIn, readableIn};
-ghost use Rattle.records.specs.Facts.{Legible, EntryOf, Sound, Entries, SpansIn};
+ghost use Rattle.records.specs.Layouts.{lineOf, pictures, fields, fieldAt, spansOf, wordBy, rightBy, rightIn, pictureIn, readableIn, inOrder};
+ghost use Rattle.records.specs.Facts.{Legible, EntryOf, LooksBy, Sound, Entries, SpansFit};
 
 // The columns of every record but the vector, a mark for each: `l` the letter, `n` a number, `a` a company or the wildcard, `c` a code, `t` text,
 // `u` a column that is not read, and a comma for a gap.
@@ -40,161 +40,7 @@ lccccccc\
 lnnnnnnnn,nnnnnnnn,nn\
 laaa,cccc,aaa,cccc,nnn,nnnnn";
 
-// The fields that leave a word in a row, in the same order: the first column of each. Three tables of bytes, since a constant is
-// put together at every look, and bytes go by eights.
-const FIRSTS: [u8; 51] = [
-    // the first line: company, first day, last day, version
-    2,
-    6,
-    15,
-    24,
-    // company: number, day turn
-    1,
-    47,
-    // country: code, inland
-    1,
-    6,
-    // mode
-    1,
-    // zone
-    2,
-    // zone period: hours, first day, last day
-    2,
-    5,
-    14,
-    // station: change flag, short name, change time, country, zone
-    1,
-    3,
-    11,
-    17,
-    22,
-    // footnote
-    2,
-    // service
-    2,
-    // train number: company, number, first stop, last stop
-    2,
-    6,
-    20,
-    24,
-    // validity: footnote, first stop, last stop
-    2,
-    8,
-    12,
-    // transport: mode, first stop, last stop
-    2,
-    7,
-    11,
-    // attribute: code, first stop, last stop, footnote
-    2,
-    7,
-    11,
-    15,
-    // stop: station, time
-    2,
-    10,
-    // interval: station, arrival, departure
-    2,
-    10,
-    15,
-    // passed station
-    2,
-    // platform: footnote
-    14,
-    // change: station
-    2,
-    // change of a pair: from service, to service, possibility
-    2,
-    11,
-    20,
-    // exception: from company, from mode, to company, to mode, time, footnote
-    2,
-    6,
-    11,
-    15,
-    20,
-    24,
-];
-
-// Their widths.
-const WIDTHS: [u8; 51] = [
-    // the first line: company, first day, last day, version
-    3,
-    8,
-    8,
-    4,
-    // company: number, day turn
-    3,
-    4,
-    // country: code, inland
-    4,
-    1,
-    // mode
-    4,
-    // zone
-    4,
-    // zone period: hours, first day, last day
-    2,
-    8,
-    8,
-    // station: change flag, short name, change time, country, zone
-    1,
-    7,
-    2,
-    4,
-    4,
-    // footnote
-    5,
-    // service
-    8,
-    // train number: company, number, first stop, last stop
-    3,
-    5,
-    3,
-    3,
-    // validity: footnote, first stop, last stop
-    5,
-    3,
-    3,
-    // transport: mode, first stop, last stop
-    4,
-    3,
-    3,
-    // attribute: code, first stop, last stop, footnote
-    4,
-    3,
-    3,
-    5,
-    // stop: station, time
-    7,
-    4,
-    // interval: station, arrival, departure
-    7,
-    4,
-    4,
-    // passed station
-    7,
-    // platform: footnote
-    5,
-    // change: station
-    7,
-    // change of a pair: from service, to service, possibility
-    8,
-    8,
-    2,
-    // exception: from company, from mode, to company, to mode, time, footnote
-    3,
-    4,
-    3,
-    4,
-    3,
-    5,
-];
-
-// Their classes: `n` a number, `s` a stop's number, `a` a company or the wildcard, `c` a code.
-const CLASSES: [u8; 51] = *b"nnnnnncncnnnnncncnnnnnssnsscsscssncncnncncnnnacacnn";
-
-// A record's part of the two tables: where its columns begin and end, and its fields. The vector's is empty.
+// A record's part of the pictures and of the fields: where its columns begin and end, and its fields. The vector's is empty.
 pub struct Spans(pub usize, pub usize, pub usize, pub usize);
 
 // One field: its first column, counted from 1, its width and its class.
@@ -228,19 +74,86 @@ fn spans_of(record: iff::Record) -> Spans
     }
 }
 
-// A byte as a number of columns.
-fn size(b: u8) -> usize
-    ensures { λ r. ⌜ r ≡ b ⌝ }
-{
-    b as usize
-}
-
-// Field `j` of the tables.
+// Field `j` of those that leave a word in a row, in the order of the pictures; beyond the last, an empty one. The classes: `n` a number,
+// `s` a stop's number, `a` a company or the wildcard, `c` a code. A `match` and no constant array, since the compiler makes a table of it that
+// stands in the program, where an array is put together at every look.
 fn entry_at(j: usize) -> Entry
-    requires { ⌜ j < 51 ⌝ }
     ensures { λ r. ⌜ EntryOf j r ⌝ }
 {
-    Entry(size(FIRSTS[j]), size(WIDTHS[j]), CLASSES[j])
+    match j {
+        // the first line: company, first day, last day, version
+        0 => Entry(2, 3, b'n'),
+        1 => Entry(6, 8, b'n'),
+        2 => Entry(15, 8, b'n'),
+        3 => Entry(24, 4, b'n'),
+        // company: number, day turn
+        4 => Entry(1, 3, b'n'),
+        5 => Entry(47, 4, b'n'),
+        // country: code, inland
+        6 => Entry(1, 4, b'c'),
+        7 => Entry(6, 1, b'n'),
+        // mode
+        8 => Entry(1, 4, b'c'),
+        // zone
+        9 => Entry(2, 4, b'n'),
+        // zone period: hours, first day, last day
+        10 => Entry(2, 2, b'n'),
+        11 => Entry(5, 8, b'n'),
+        12 => Entry(14, 8, b'n'),
+        // station: change flag, short name, change time, country, zone
+        13 => Entry(1, 1, b'n'),
+        14 => Entry(3, 7, b'c'),
+        15 => Entry(11, 2, b'n'),
+        16 => Entry(17, 4, b'c'),
+        17 => Entry(22, 4, b'n'),
+        // footnote
+        18 => Entry(2, 5, b'n'),
+        // service
+        19 => Entry(2, 8, b'n'),
+        // train number: company, number, first stop, last stop
+        20 => Entry(2, 3, b'n'),
+        21 => Entry(6, 5, b'n'),
+        22 => Entry(20, 3, b's'),
+        23 => Entry(24, 3, b's'),
+        // validity: footnote, first stop, last stop
+        24 => Entry(2, 5, b'n'),
+        25 => Entry(8, 3, b's'),
+        26 => Entry(12, 3, b's'),
+        // transport: mode, first stop, last stop
+        27 => Entry(2, 4, b'c'),
+        28 => Entry(7, 3, b's'),
+        29 => Entry(11, 3, b's'),
+        // attribute: code, first stop, last stop, footnote
+        30 => Entry(2, 4, b'c'),
+        31 => Entry(7, 3, b's'),
+        32 => Entry(11, 3, b's'),
+        33 => Entry(15, 5, b'n'),
+        // stop: station, time
+        34 => Entry(2, 7, b'c'),
+        35 => Entry(10, 4, b'n'),
+        // interval: station, arrival, departure
+        36 => Entry(2, 7, b'c'),
+        37 => Entry(10, 4, b'n'),
+        38 => Entry(15, 4, b'n'),
+        // passed station
+        39 => Entry(2, 7, b'c'),
+        // platform: footnote
+        40 => Entry(14, 5, b'n'),
+        // change: station
+        41 => Entry(2, 7, b'c'),
+        // change of a pair: from service, to service, possibility
+        42 => Entry(2, 8, b'n'),
+        43 => Entry(11, 8, b'n'),
+        44 => Entry(20, 2, b'n'),
+        // exception: from company, from mode, to company, to mode, time, footnote
+        45 => Entry(2, 3, b'a'),
+        46 => Entry(6, 4, b'c'),
+        47 => Entry(11, 3, b'a'),
+        48 => Entry(15, 4, b'c'),
+        49 => Entry(20, 3, b'n'),
+        50 => Entry(24, 5, b'n'),
+        _ => Entry(1, 0, b'c'),
+    }
 }
 
 // Records by letter.
@@ -304,11 +217,22 @@ pub fn record_of(file: iff::File, letter: u8) -> iff::Record
 
 // Layout.
 
-fn fits_columns(line: &[u8], from: usize, to: usize) -> bool
-    requires { ⌜ (from ≤ to) × (to ≤ 511) ⌝ }
-    ensures { λ r. ⌜ r ≡ fits (now (line .entry)) (take (to - from) (drop from pictures)) ⌝ }
+// How a line looks beside a picture: it fits, and it has the figures.
+struct Looks(bool, bool);
+
+fn looks_by(line: &[u8], picture: &[u8]) -> Looks
+    ensures { λ r. ⌜ LooksBy (now (line .entry)) (now (picture .entry)) r ⌝ }
 {
-    text::fits_picture(line, &PICTURES[from..to])
+    let fitting = text::fits_picture(line, picture);
+    Looks(fitting, text::has_figures(line, picture))
+}
+
+// Both at one look, since the pictures are put together at every use.
+fn looks_in(line: &[u8], from: usize, to: usize) -> Looks
+    requires { ⌜ (from ≤ to) × (to ≤ 511) ⌝ }
+    ensures { λ r. ⌜ LooksBy (now (line .entry)) (take (to - from) (drop from pictures)) r ⌝ }
+{
+    looks_by(line, &PICTURES[from..to])
 }
 
 // A vector's columns are allowed bytes, one for each day.
@@ -341,17 +265,11 @@ pub fn is_laid(record: iff::Record, days: usize, line: &[u8], ended: bool) -> bo
         return fits_days(line, days);
     }
     let from = s.0;
-    fits_columns(line, from, to)
+    let looks = looks_in(line, from, to);
+    looks.0
 }
 
 // Figures and codes.
-
-fn has_column_figures(line: &[u8], from: usize, to: usize) -> bool
-    requires { ⌜ (from ≤ to) × (to ≤ 511) ⌝ }
-    ensures { λ r. ⌜ r ≡ figures (now (line .entry)) (take (to - from) (drop from pictures)) ⌝ }
-{
-    text::has_figures(line, &PICTURES[from..to])
-}
 
 // A vector's marks.
 fn all_marks(line: &[u8]) -> bool
@@ -389,7 +307,7 @@ fn is_right(class: u8, field: &[u8]) -> bool
 }
 
 fn is_field_right(line: &[u8], j: usize) -> bool
-    requires { ⌜ (j < 51) × Sound (length (now line)) (fieldAt j) ⌝ }
+    requires { ⌜ Sound (length (now line)) (fieldAt j) ⌝ }
     ensures { λ r. ⌜ r ≡ fieldRight (fieldAt j .class) (columns (now (line .entry)) (fieldAt j)) ⌝ }
 {
     let e = entry_at(j);
@@ -412,45 +330,67 @@ fn are_fields_right(line: &[u8], first: usize, end: usize) -> bool
     true
 }
 
-// The figures and codes of a record of fixed columns.
-fn is_fixed_readable(line: &[u8], s: Spans) -> bool
-    requires { ⌜ SpansIn s (now line) ⌝ }
-    ensures { λ r. ⌜ r ≡ readableIn s (now (line .entry)) ⌝ }
+// Layout (4) before value (5).
+
+// The vector's.
+fn vector_layout(line: &[u8], days: usize) -> iff::Test
+    ensures { λ r. ⌜ r ≡ inOrder (fits (now (line .entry)) (replicate days 109)) (all zeroOrOne (now (line .entry))) ⌝ }
+{
+    if !fits_days(line, days) {
+        return iff::Test::Fails(iff::Reason::Layout);
+    }
+    if !all_marks(line) {
+        return iff::Test::Fails(iff::Reason::Value);
+    }
+    iff::Test::Passes
+}
+
+// Those of a record of fixed columns.
+fn fixed_layout(line: &[u8], s: Spans) -> iff::Test
+    requires { ⌜ SpansFit s (now line) ⌝ }
+    ensures { λ r. ⌜ r ≡ inOrder (fits (now (line .entry)) (pictureIn s)) (readableIn s (now (line .entry))) ⌝ }
 {
     let from = s.0;
     let to = s.1;
-    if !has_column_figures(line, from, to) {
-        return false;
+    let looks = looks_in(line, from, to);
+    if !looks.0 {
+        return iff::Test::Fails(iff::Reason::Layout);
+    }
+    if !looks.1 {
+        return iff::Test::Fails(iff::Reason::Value);
     }
     let first = s.2;
     let end = s.3;
-    are_fields_right(line, first, end)
+    if !are_fields_right(line, first, end) {
+        return iff::Test::Fails(iff::Reason::Value);
+    }
+    iff::Test::Passes
 }
 
-// Digits where numbers are due, marks where a vector's are, codes that are not all blank.
+// Those of any record.
+pub fn line_layout(record: iff::Record, days: usize, line: &[u8], ended: bool) -> iff::Test
+    ensures { λ r. ⌜ r ≡ orTest (unless (laid (lineOf (now (line .entry)) ended) (recordFields days «record»)) Layout) (unless (readable (now (line .entry)) (recordFields days «record»)) Value) ⌝ }
+{
+    if !ended {
+        return iff::Test::Fails(iff::Reason::Layout);
+    }
+    let s = spans_of(record);
+    let to = s.1;
+    if to == 0 {
+        return vector_layout(line, days);
+    }
+    fixed_layout(line, s)
+}
+
+// Digits where numbers are due, marks where a vector's are, codes that are not all blank: asked by itself of a line that has its layout.
 pub fn is_readable(record: iff::Record, days: usize, line: &[u8]) -> bool
     requires { ⌜ fits (now line) (picture (recordFields days «record»)) ≡ true ⌝ }
     ensures { λ r. ⌜ r ≡ readable (now (line .entry)) (recordFields days «record») ⌝ }
 {
-    let s = spans_of(record);
-    let to = s.1;
-    if to == 0 {
-        return all_marks(line);
+    match line_layout(record, days, line, true) {
+        iff::Test::Passes => true,
+        iff::Test::Fails(_) => false,
     }
-    is_fixed_readable(line, s)
-}
-
-// Layout (4) before value (5).
-pub fn line_layout(record: iff::Record, days: usize, line: &[u8], ended: bool) -> iff::Test
-    ensures { λ r. ⌜ r ≡ orTest (unless (laid (lineOf (now (line .entry)) ended) (recordFields days «record»)) Layout) (unless (readable (now (line .entry)) (recordFields days «record»)) Value) ⌝ }
-{
-    if !is_laid(record, days, line, ended) {
-        return iff::Test::Fails(iff::Reason::Layout);
-    }
-    if !is_readable(record, days, line) {
-        return iff::Test::Fails(iff::Reason::Value);
-    }
-    iff::Test::Passes
 }
 
 // Rows.
@@ -479,7 +419,7 @@ fn word_of(class: u8, n: u64, field: &[u8]) -> u64
 }
 
 fn field_word(n: u64, line: &[u8], j: usize) -> u64
-    requires { ⌜ (j < 51) × Sound (length (now line)) (fieldAt j) ⌝ }
+    requires { ⌜ Sound (length (now line)) (fieldAt j) ⌝ }
     ensures { λ r. ⌜ fieldWords n (fieldAt j .class) (columns (now (line .entry)) (fieldAt j)) ≡ r ∷ [] ⌝ }
 {
     let e = entry_at(j);

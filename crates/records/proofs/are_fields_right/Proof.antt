@@ -1,7 +1,6 @@
 -- What is left to test is the whole. Assumes nothing.
 use Prim.Native.Nat.{_-_}
 use mathlib.Core.Path.{sym, _∙_}
-use native.Mathlib.Omega.{arith}
 use borrow.Author.Needs.{needs}
 use borrow.Author.Tests.{not-true, not-false}
 use Rattle.records.proofs.ColumnLaws.{Testing, test-begin, test-sound, test-fails, test-on, test-end}
@@ -31,7 +30,7 @@ are-fields-right-spec =
     Inv-loop
     μ-loop
     (λ c. test-begin _ _ _ (c .before .pre))
-    (λ c κs. (omega arith, test-sound _ _ _ _ (c .loop-test .taken) (search needs) (c .before .loop .inv)))
+    (λ c κs. test-sound _ _ _ _ (c .loop-test .taken) (search needs) (c .before .loop .inv))
     returns
     (λ c. search needs)
     (λ c. search needs)

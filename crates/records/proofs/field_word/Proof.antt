@@ -14,5 +14,5 @@ field-word-spec =
     (λ c. search needs)
     (λ c. search needs)
     (λ c. search needs)
-    (λ c κs. let e = c .before .before .before in part-small _ _ (e .entry-at .ensures) _ (e .before .before .pre .1))
-    (λ c. let e = c .before .before .before .before in part-word _ _ (e .entry-at .ensures) _ (e .before .before .pre .1) _ _ (c .word-of .ensures)))
+    (λ c κs. let e = c .before .before .before in part-small _ _ (e .entry-at .ensures) _ (e .before .before .pre))
+    (λ c. let e = c .before .before .before .before in part-word _ _ (e .entry-at .ensures) _ (e .before .before .pre) _ _ (c .word-of .ensures)))

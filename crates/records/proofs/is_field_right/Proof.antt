@@ -15,4 +15,4 @@ is-field-right-spec =
     (λ c. search needs)
     (λ c. search needs)
     (λ c κs. search needs)
-    (λ c. let e = c .before .before .before .before in part-right _ _ (e .entry-at .ensures) _ (e .before .before .pre .1) _ (c .is-right .ensures)))
+    (λ c. let e = c .before .before .before .before in part-right _ _ (e .entry-at .ensures) _ (e .before .before .pre) _ (c .is-right .ensures)))

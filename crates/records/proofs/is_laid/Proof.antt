@@ -13,8 +13,8 @@ returns-2 c =
     let a = q .before .before .before .args in
     c .fits-days .ensures ∙ laid-vector (a .days) (a .«record») _ (q .spans-of .ensures) _ (a .ended) (not-false (a .ended) (q .before .if1 .left)) (c .before .if2 .taken)
 
-fits-columns-requires : tie.Need-fits-columns-requires
-fits-columns-requires c κs =
+looks-in-requires : tie.Need-looks-in-requires
+looks-in-requires c κs =
     let q = c .before in
     let p = fixed-place 0 (q .before .before .before .args .«record») _ (q .spans-of .ensures) (c .if2 .left) in
     (p .low, p .top)
@@ -23,7 +23,7 @@ returns-3 : tie.Need-returns-3
 returns-3 c =
     let q = c .before .before in
     let a = q .before .before .before .args in
-    c .fits-columns .ensures ∙ laid-fixed (a .days) (a .«record») _ (q .spans-of .ensures) _ (a .ended) (not-false (a .ended) (q .before .if1 .left)) (c .before .if2 .left)
+    c .looks-in .ensures .fitting ∙ laid-fixed (a .days) (a .«record») _ (q .spans-of .ensures) _ (a .ended) (not-false (a .ended) (q .before .if1 .left)) (c .before .if2 .left)
 
 pub is-laid-spec : {M : Type 1} → statement M
 is-laid-spec =
@@ -33,5 +33,5 @@ is-laid-spec =
     (λ c κs. search needs)
     (λ c κs. search needs)
     returns-2
-    fits-columns-requires
+    looks-in-requires
     returns-3)

@@ -1,34 +1,28 @@
--- By whether the record is the vector or has fixed columns. Assumes nothing.
+-- A line that has its layout fails by its values alone. Assumes nothing.
 use borrow.Author.Needs.{needs}
-use mathlib.Core.Path.{_∙_}
-use Rattle.records.proofs.LineLaws.{read-vector, read-spans, read-fixed}
+use Rattle.iff.specs.Columns.{recordFields}
+use Rattle.records.proofs.LineLaws.{read-passes, read-fails}
 use Rattle.records.proofs.is_readable.Statement.{statement}
 use Rattle.records.proofs.is_readable.Tie as tie
 
 returns : tie.Need-returns
 returns c =
-    let q = c .before .before in
-    let a = q .before .before in
-    c .all-marks .ensures ∙ read-vector (a .args .days) (a .args .«record») _ (q .spans-of .ensures) _ (a .pre) (c .before .if1 .taken)
-
-is-fixed-readable-requires : tie.Need-is-fixed-readable-requires
-is-fixed-readable-requires c κs =
-    let q = c .before in
-    let a = q .before .before in
-    read-spans (a .args .days) (a .args .«record») _ (q .spans-of .ensures) _ (a .pre) (c .if1 .left)
+    let l = c .before .before in
+    let a = l .before .before in
+    read-passes _ (recordFields (a .args .days) (a .args .«record»)) (a .pre) _ (l .line-layout .ensures) (c .enum-told .given .1)
 
 returns-2 : tie.Need-returns-2
 returns-2 c =
-    let q = c .before .before in
-    let a = q .before .before in
-    c .is-fixed-readable .ensures ∙ read-fixed (a .args .days) (a .args .«record») _ (q .spans-of .ensures) _ (a .pre) (c .before .if1 .left)
+    let l = c .before .before in
+    let a = l .before .before in
+    read-fails _ (recordFields (a .args .days) (a .args .«record»)) (a .pre) _ (l .line-layout .ensures) _ (c .enum-told2 .given .1)
 
 pub is-readable-spec : {M : Type 1} → statement M
 is-readable-spec =
     tie.close
     (tie.spec
     (λ c κs. search needs)
-    (λ c κs. search needs)
+    (λ c. search needs)
+    (λ c. search needs)
     returns
-    is-fixed-readable-requires
     returns-2)

@@ -1,7 +1,6 @@
 -- What is left to put is what the fields that are left leave. Assumes nothing.
 use Prim.Native.Nat.{_-_}
 use mathlib.Core.Path.{_∙_}
-use native.Mathlib.Omega.{arith}
 use borrow.Author.Needs.{needs}
 use lib.ListN.{length}
 use Rattle.records.proofs.ColumnLaws.{Putting, put-begin, put-sound, put-on, put-end}
@@ -27,7 +26,7 @@ loop-holds c =
 field-word-requires : tie.Need-field-word-requires Inv-loop μ-loop
 field-word-requires c κs =
     let p = c .before .before .before .before .before .before .before .before .pre .0 in
-    (omega arith, put-sound _ _ _ _ _ _ _ _ _ (c .loop-test .taken) (p .inTable) (c .before .loop .inv))
+    put-sound _ _ _ _ _ _ _ _ _ (c .loop-test .taken) (p .inTable) (c .before .loop .inv)
 
 loop-again : tie.Need-loop-again Inv-loop μ-loop
 loop-again c =

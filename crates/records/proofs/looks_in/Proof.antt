@@ -2,16 +2,16 @@
 use borrow.Author.Needs.{needs}
 use Rattle.iff.specs.Columns.{recordFields, pictureFrom}
 use Rattle.records.specs.Layouts.{each, pictures}
-use Rattle.records.proofs.has_column_figures.Statement.{statement}
-use Rattle.records.proofs.has_column_figures.Tie as tie
+use Rattle.records.proofs.looks_in.Statement.{statement}
+use Rattle.records.proofs.looks_in.Tie as tie
 
-pub has-column-figures-spec : {M : Type 1} → statement M
+pub looks-in-spec : {M : Type 1} → statement M
 unfolding pictures each recordFields pictureFrom
-has-column-figures-spec =
+looks-in-spec =
     tie.close
     (tie.spec
     (λ c. search needs)
     (λ c. search needs)
     (λ c. search needs)
     (λ c κs. search needs)
-    (λ c. c .has-figures .ensures))
+    (λ c. c .looks-by .ensures))

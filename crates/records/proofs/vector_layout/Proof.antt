@@ -1,0 +1,15 @@
+-- The two tests, in order. Assumes nothing.
+use borrow.Author.Needs.{needs}
+use borrow.Author.Tests.{not-true, not-false}
+use Rattle.records.proofs.vector_layout.Statement.{statement}
+use Rattle.records.proofs.vector_layout.Tie as tie
+
+pub vector-layout-spec : {M : Type 1} → statement M
+vector-layout-spec =
+    tie.close
+    (tie.spec
+    (λ c κs. search needs)
+    (λ c. rw (← c .before .fits-days .ensures, not-true (c .before .fits-days .result) (c .if1 .taken)))
+    (λ c κs. search needs)
+    (λ c. let e = c .before .before in rw (← e .before .fits-days .ensures, not-false (e .before .fits-days .result) (e .if1 .left), ← c .before .all-marks .ensures, not-true (c .before .all-marks .result) (c .if2 .taken)))
+    (λ c. let e = c .before .before in rw (← e .before .fits-days .ensures, not-false (e .before .fits-days .result) (e .if1 .left), ← c .before .all-marks .ensures, not-false (c .before .all-marks .result) (c .if2 .left))))
