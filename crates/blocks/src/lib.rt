@@ -61,6 +61,7 @@ fn row_test(
     modes: &[u64],
     stations: &[u64],
     footnotes: &[u64],
+    places: &[u32],
 ) -> iff::Test
     requires { ⌜ length (now row) ≡ 7 ⌝ }
     ensures { λ r. ⌜ r ≡ rowTest (keysFrom counts (now (companies .entry)) (now (modes .entry)) (now (stations .entry)) (now (footnotes .entry))) fresh stops (now (row .entry)) ⌝ }
@@ -71,7 +72,7 @@ fn row_test(
     if !is_new(row[0], fresh) {
         return iff::Test::Fails(iff::Reason::Duplicate);
     }
-    if !references::met_in_block(row, counts, companies, modes, stations, footnotes) {
+    if !references::met_in_block(row, counts, companies, modes, stations, footnotes, places) {
         return iff::Test::Fails(iff::Reason::Reference);
     }
     iff::Test::Passes
@@ -89,6 +90,7 @@ fn record_test(
     modes: &[u64],
     stations: &[u64],
     footnotes: &[u64],
+    places: &[u32],
 ) -> iff::Test
     requires { ⌜ letter ≡ getD (now line) 0 0 ⌝ }
     ensures { λ r. ⌜ r ≡ recordTest (keysFrom counts (now (companies .entry)) (now (modes .entry)) (now (stations .entry)) (now (footnotes .entry))) fresh stops (record { body = now (line .entry); ended = ended }) ⌝ }
@@ -108,6 +110,7 @@ fn record_test(
                 modes,
                 stations,
                 footnotes,
+                places,
             )
         }
     }
@@ -141,6 +144,7 @@ fn block_line(
     modes: &[u64],
     stations: &[u64],
     footnotes: &[u64],
+    places: &[u32],
 ) -> Step
     requires { ⌜ st .stops ≤ mostStops ⌝ }
     ensures { λ r. ⌜ r ≡ blockStep (keysFrom counts (now (companies .entry)) (now (modes .entry)) (now (stations .entry)) (now (footnotes .entry))) fresh st (record { body = now (line .entry); ended = ended }) ⌝ }
@@ -164,6 +168,7 @@ fn block_line(
             modes,
             stations,
             footnotes,
+            places,
         ) {
             iff::Test::Fails(why) => Step::No(why),
             iff::Test::Passes => Step::Go(after_record(to, stops, letter)),
@@ -193,6 +198,7 @@ fn line_at(
     modes: &[u64],
     stations: &[u64],
     footnotes: &[u64],
+    places: &[u32],
 ) -> Turned
     requires { ⌜ (at < length (now block)) × (st .stops ≤ mostStops) ⌝ }
     ensures { λ r. ⌜ TurnsTo (keysFrom counts (now (companies .entry)) (now (modes .entry)) (now (stations .entry)) (now (footnotes .entry))) fresh (now (block .entry)) at st r ⌝ }
@@ -211,6 +217,7 @@ fn line_at(
                     modes,
                     stations,
                     footnotes,
+                    places,
                 ),
                 next,
             )
@@ -228,6 +235,7 @@ fn line_at(
                     modes,
                     stations,
                     footnotes,
+                    places,
                 ),
                 next,
             )
@@ -248,6 +256,7 @@ fn read_stops(
     modes: &[u64],
     stations: &[u64],
     footnotes: &[u64],
+    places: &[u32],
 ) -> Driven
     requires { ⌜ Standing (now block) from before start ⌝ }
     ensures { λ r. ⌜ r ≡ driveAt (keysFrom counts (now (companies .entry)) (now (modes .entry)) (now (stations .entry)) (now (footnotes .entry))) fresh (now (block .entry)) from start before ⌝ }
@@ -269,6 +278,7 @@ fn read_stops(
                 modes,
                 stations,
                 footnotes,
+                places,
             );
         }
         match line_at(
@@ -281,6 +291,7 @@ fn read_stops(
             modes,
             stations,
             footnotes,
+            places,
         ) {
             Turned::Off(why) => {
                 return Driven::Held(why, number);
@@ -307,6 +318,7 @@ fn read_platform(
     modes: &[u64],
     stations: &[u64],
     footnotes: &[u64],
+    places: &[u32],
 ) -> Driven
     requires { ⌜ (at < length (now block)) × Standing (now block) at before st ⌝ }
     ensures { λ r. ⌜ r ≡ driveAt (keysFrom counts (now (companies .entry)) (now (modes .entry)) (now (stations .entry)) (now (footnotes .entry))) fresh (now (block .entry)) at st before ⌝ }
@@ -322,6 +334,7 @@ fn read_platform(
         modes,
         stations,
         footnotes,
+        places,
     ) {
         Turned::Off(why) => Driven::Held(why, number),
         Turned::On(next, to) => read_stops(
@@ -335,6 +348,7 @@ fn read_platform(
             modes,
             stations,
             footnotes,
+            places,
         ),
     }
 }
@@ -358,6 +372,7 @@ fn last_tests(block: &[u8], st: iff::InBlock, lines: u64) -> Checked
 }
 
 // The first fault of a block, or its lines and stops. `fresh` tells whether the service of its `#` is new. An empty text is one empty line.
+// `places` is a hint where stations and footnotes stand, and may be empty.
 pub fn check_block(
     block: &[u8],
     fresh: bool,
@@ -366,6 +381,7 @@ pub fn check_block(
     modes: &[u64],
     stations: &[u64],
     footnotes: &[u64],
+    places: &[u32],
 ) -> Checked
     ensures { λ r. ⌜ BlockChecked (now (block .entry)) fresh counts (now (companies .entry)) (now (modes .entry)) (now (stations .entry)) (now (footnotes .entry)) r ⌝ }
 {
@@ -387,6 +403,7 @@ pub fn check_block(
         modes,
         stations,
         footnotes,
+        places,
     ) {
         Driven::Held(why, line) => Checked::Broken(why, line),
         Driven::Through(st, lines) => last_tests(block, st, lines),

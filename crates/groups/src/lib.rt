@@ -430,7 +430,7 @@ fn place_services(file: File, services: &[u64], used: usize, places: &mut [u32])
 }
 
 // The same, with the rows in use of the other tables counted before the first line, and not again, and with the places of services found then too.
-// There are 131072 slots for them, and eight more for those that the last slots are too few for.
+// There are 131071 first slots for them, which is a prime number, and eight more for those that the last of these are too few for.
 pub fn read_groups(
     file: File,
     days: usize,
@@ -447,7 +447,7 @@ pub fn read_groups(
     ensures { λ r. ⌜ RowsDone file days (λ c. GroupKeys c (now (companies .entry)) (now (modes .entry)) (now (stations .entry)) (now (services .entry)) (now (xfootnotes .entry))) (λ c. groupsVerdict c file (lines (drop from (now (text .entry))))) (take (rowWidth file) (now (t .entry))) (map (rowOf days file) (lines (drop from (now (text .entry))))) (now (t .entry)) (now (t .exit)) r ⌝ }
 {
     let counts = references::count_for_groups(companies, modes, stations, services, xfootnotes);
-    let mut places = [0u32; 131080];
+    let mut places = [0u32; 131079];
     place_services(file, services, counts.services, &mut places);
     add_groups(
         file,

@@ -199,13 +199,16 @@ fn found_by_blocks(t: &[u64], used: usize, key: u64) -> bool
     false
 }
 
-// PLACES: the row of each service's `#`, as a hint. A row that it leads to is tested, so nothing rests on what stands there.
+// PLACES: the row of each key, as a hint. A row that it leads to is tested, so nothing rests on what stands there.
 
-// The first slot for a service. The slots after it are tried too.
-fn place_of(key: u64) -> usize
-    ensures { λ r. ⌜ r < 131072 ⌝ }
+// The first slot for a key, of as many as there are. Eight are tried, so the last eight are no first slots. A caller who lends a prime number of
+// slots and eight has the keys spread: codes end in blanks, and a power of two would put most of them into one slot.
+fn place_of(key: u64, slots: usize) -> usize
+    requires { ⌜ 8 < slots ⌝ }
+    ensures { λ r. ⌜ r + 8 < slots ⌝ }
 {
-    (key % 131072) as usize
+    let firsts = slots - 8;
+    (key % (firsts as u64)) as usize
 }
 
 // A row's number out of its slot.
@@ -215,26 +218,45 @@ fn place_row(place: u32) -> usize
     place as usize
 }
 
-// Puts a service's row into the first free slot of eight. Row 0 is the first line's, so 0 is a free slot. Where none is free, or the number is too
-// wide for a slot, the service is left out, and is searched for.
+// Puts a key's row into the first free slot of eight. Row 0 is the first line's, so 0 is a free slot. Where none is free, or there are too few slots,
+// or the number is too wide for a slot, the key is left out, and is searched for.
 fn put_place(places: &mut [u32], key: u64, row: usize)
     ensures { λ _. ⌜ length (now (places .exit)) ≡ length (now (places .entry)) ⌝ }
 {
     if row > 4294967295 {
         return;
     }
+    let slots = places.len();
+    if slots <= 8 {
+        return;
+    }
     let place = row as u32;
-    let mut at = place_of(key);
+    let mut at = place_of(key, slots);
     let end = at + 8;
     while at < end {
-        if at >= places.len() {
-            return;
-        }
         if places[at] == 0 {
             places[at] = place;
             return;
         }
         at += 1;
+    }
+}
+
+// Puts the keys of a table into their slots. Two tables may share the slots, since a row is tested in the table that is asked.
+pub fn index_rows(file: iff::File, t: &[u64], used: usize, places: &mut [u32])
+    ensures { λ _. ⌜ length (now (places .exit)) ≡ length (now (places .entry)) ⌝ }
+{
+    let w = tables::row_width(file);
+    let tag = key_tag(file);
+    let col = key_word(file);
+    let rows = rows_among(t, w, used);
+    let mut i = 1;
+    while i < rows {
+        if tables::word_at(t, w, i, 0) == tag {
+            let key = tables::word_at(t, w, i, col);
+            put_place(places, key, i);
+        }
+        i += 1;
     }
 }
 
@@ -258,26 +280,30 @@ pub fn index_services(t: &[u64], used: usize, places: &mut [u32])
     }
 }
 
-// A look at the slots for a service. A free one ends it: the service is in none of those after it.
-fn found_by_place(t: &[u64], used: usize, places: &[u32], key: u64) -> bool
-    ensures { λ r. ⌜ (r ≡ true → has key (keysAmong Timetbls used (now (t .entry))) ≡ true) ⌝ }
+// A look at the slots for a key. A free one ends it: the key is in none of those after it. A slot with a row of another table, which may be out of
+// range here, is passed over.
+fn found_by_place(file: iff::File, t: &[u64], used: usize, places: &[u32], key: u64) -> bool
+    ensures { λ r. ⌜ (r ≡ true → has key (keysAmong file used (now (t .entry))) ≡ true) ⌝ }
 {
-    let rows = rows_among(t, 7, used);
-    let mut at = place_of(key);
+    let slots = places.len();
+    if slots <= 8 {
+        return false;
+    }
+    let w = tables::row_width(file);
+    let tag = key_tag(file);
+    let col = key_word(file);
+    let rows = rows_among(t, w, used);
+    let mut at = place_of(key, slots);
     let end = at + 8;
     while at < end {
-        if at >= places.len() {
-            return false;
-        }
         let row = place_row(places[at]);
         if row == 0 {
             return false;
         }
-        if row >= rows {
-            return false;
-        }
-        if tables::keyed_at(t, 7, row, HASH, 1, key) {
-            return true;
+        if row < rows {
+            if tables::keyed_at(t, w, row, tag, col, key) {
+                return true;
+            }
         }
         at += 1;
     }
@@ -289,7 +315,7 @@ fn found_by_place(t: &[u64], used: usize, places: &[u32], key: u64) -> bool
 pub fn names_service(t: &[u64], used: usize, places: &[u32], key: u64) -> bool
     ensures { λ r. ⌜ r ≡ has key (keysAmong Timetbls used (now (t .entry))) ⌝ }
 {
-    if found_by_place(t, used, places, key) {
+    if found_by_place(iff::File::Timetbls, t, used, places, key) {
         return true;
     }
     if found_by_halves(iff::File::Timetbls, t, used, key) {
@@ -309,6 +335,16 @@ pub fn names_among(file: iff::File, t: &[u64], used: usize, key: u64) -> bool
         return true;
     }
     found_by_scan(file, t, used, key)
+}
+
+// The same with an index: found at the key's place, whatever the order of the keys.
+pub fn names_at(file: iff::File, t: &[u64], used: usize, places: &[u32], key: u64) -> bool
+    ensures { λ r. ⌜ r ≡ has key (keysAmong file used (now (t .entry))) ⌝ }
+{
+    if found_by_place(file, t, used, places, key) {
+        return true;
+    }
+    names_among(file, t, used, key)
 }
 
 // RUNS OF KEYS

@@ -86,7 +86,8 @@ pub fn count_for_groups(
 
 // REFERENCES
 
-// What a line of a TIMETBLS block names is there. The attribute's own code is not looked up.
+// What a line of a TIMETBLS block names is there. The attribute's own code is not looked up. The places of stations and footnotes are a hint
+// where to look, and may say anything.
 pub fn met_in_block(
     row: &[u64],
     counts: BlockCounts,
@@ -94,6 +95,7 @@ pub fn met_in_block(
     modes: &[u64],
     stations: &[u64],
     footnotes: &[u64],
+    places: &[u32],
 ) -> bool
     requires { ⌜ 5 ≤ length (now row) ⌝ }
     ensures { λ r. ⌜ ((c : Context) → BlockKeysAmong c counts (now (companies .entry)) (now (modes .entry)) (now (stations .entry)) (now (footnotes .entry)) → r ≡ metInBlock c (now (row .entry))) ⌝ }
@@ -108,18 +110,36 @@ pub fn met_in_block(
         return keys::names_among(iff::File::Company, companies, counts.companies, name);
     }
     if tag == DASH {
-        return keys::names_among(iff::File::Footnote, footnotes, counts.footnotes, name);
+        return keys::names_at(
+            iff::File::Footnote,
+            footnotes,
+            counts.footnotes,
+            places,
+            name,
+        );
     }
     if tag == AMPERSAND {
         return keys::names_among(iff::File::Trnsmode, modes, counts.modes, name);
     }
     if tag == ASTERISK {
-        return keys::names_among(iff::File::Footnote, footnotes, counts.footnotes, footnote);
+        return keys::names_at(
+            iff::File::Footnote,
+            footnotes,
+            counts.footnotes,
+            places,
+            footnote,
+        );
     }
     if tag == QUESTION {
-        return keys::names_among(iff::File::Footnote, footnotes, counts.footnotes, name);
+        return keys::names_at(
+            iff::File::Footnote,
+            footnotes,
+            counts.footnotes,
+            places,
+            name,
+        );
     }
-    keys::names_among(iff::File::Stations, stations, counts.stations, name)
+    keys::names_at(iff::File::Stations, stations, counts.stations, places, name)
 }
 
 // A station's country and zone are there.

@@ -99,13 +99,23 @@ fn test_block(
     modes: &[u64],
     stations: &[u64],
     footnotes: &[u64],
+    places: &[u32],
 ) -> blocks::Checked
     requires { ⌜ (run ≡ runOf (keysIn Timetbls (now t))) × Marked (now marks) (keysIn Timetbls (now t)) × (isHash (asBlock (now block) .top) ≡ true) ⌝ }
     ensures { λ r. ⌜ BlockTested (now (block .entry)) (now (t .entry)) counts (now (companies .entry)) (now (modes .entry)) (now (stations .entry)) (now (footnotes .entry)) r ⌝ }
 {
     let service = blocks::service_of(block);
     let fresh = keys::is_fresh_service(marks, run, t, service);
-    blocks::check_block(block, fresh, counts, companies, modes, stations, footnotes)
+    blocks::check_block(
+        block,
+        fresh,
+        counts,
+        companies,
+        modes,
+        stations,
+        footnotes,
+        places,
+    )
 }
 
 // What is remembered of the services with this block's, which is marked.
@@ -130,6 +140,7 @@ fn add_block(
     modes: &[u64],
     stations: &[u64],
     footnotes: &[u64],
+    places: &[u32],
 ) -> Added
     requires { ⌜ Addable (now block) (now t) (now marks) run row ⌝ }
     ensures { λ r. ⌜ BlockAdded (now (block .entry)) (now (t .entry)) (now (t .exit)) (now (marks .exit)) counts (now (companies .entry)) (now (modes .entry)) (now (stations .entry)) (now (footnotes .entry)) r ⌝ }
@@ -144,6 +155,7 @@ fn add_block(
         modes,
         stations,
         footnotes,
+        places,
     ) {
         blocks::Checked::Broken(why, line) => Added::Faulty(why, line),
         blocks::Checked::Whole(k, n) => {
@@ -165,6 +177,7 @@ fn add_blocks(
     modes: &[u64],
     stations: &[u64],
     footnotes: &[u64],
+    places: &[u32],
 ) -> reading::RowsRead
     requires { ⌜ BlocksReady (now text) from (now t) (now marks) ⌝ }
     ensures { λ r. ⌜ BlocksAdded (now (text .entry)) from counts (now (companies .entry)) (now (modes .entry)) (now (stations .entry)) (now (footnotes .entry)) (now (t .entry)) (now (t .exit)) r ⌝ }
@@ -187,6 +200,7 @@ fn add_blocks(
             modes,
             stations,
             footnotes,
+            places,
         ) {
             Added::Faulty(why, line) => {
                 let place = iff::Place::At(iff::File::Timetbls, ordinal, line);
@@ -224,6 +238,8 @@ fn stray_test(text: &[u8], from: usize) -> iff::Test
 }
 
 // The lines after the first, which begin at `from`, into a table that holds the first line's row. A stray line is line 2 of block 0.
+// The places of stations and footnotes are found once, since nearly every line names one. They share 16381 first slots, which is a prime number, and eight
+// more for those that the last of these are too few for.
 pub fn read_blocks(
     text: &[u8],
     from: usize,
@@ -243,6 +259,14 @@ pub fn read_blocks(
         }
         iff::Test::Passes => {
             let counts = references::count_for_blocks(companies, modes, stations, footnotes);
+            let mut places = [0u32; 16389];
+            keys::index_rows(iff::File::Stations, stations, counts.stations, &mut places);
+            keys::index_rows(
+                iff::File::Footnote,
+                footnotes,
+                counts.footnotes,
+                &mut places,
+            );
             let mut marks = [0u8; 524288];
             add_blocks(
                 text,
@@ -254,6 +278,7 @@ pub fn read_blocks(
                 modes,
                 stations,
                 footnotes,
+                &places,
             )
         }
     }

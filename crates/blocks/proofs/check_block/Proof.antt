@@ -9,7 +9,7 @@ use Rattle.blocks.proofs.check_block.Statement.{statement}
 use Rattle.blocks.proofs.check_block.Tie as tie
 
 -- the block is not empty
-some : (c : tie.Else1) → 0 < length (c .before .before .before .before .before .before .args .block .now)
+some : (c : tie.Else1) → 0 < length (c .before .before .before .before .before .before .before .args .block .now)
 some c = omega arith
 
 pub check-block-spec : {M : Type 1} → statement M

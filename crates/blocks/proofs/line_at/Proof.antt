@@ -10,21 +10,21 @@ use Rattle.blocks.proofs.line_at.Reads as reads
 use Rattle.blocks.proofs.line_at.Lts as lts
 
 -- the line of the first arm
-line : (c : tie.After-known-told) → EndedAt (c .before .before .before .before .before .before .before .before .before .args .block .now) (c .before .before .before .before .before .before .before .before .before .args .at) (c .before .e .given .0 .0)
+line : (c : tie.After-known-told) → EndedAt (c .before .before .before .before .before .before .before .before .before .before .args .block .now) (c .before .before .before .before .before .before .before .before .before .before .args .at) (c .before .e .given .0 .0)
 line c =
     let m = c .before .before .before in
-    after-ended _ _ (m .before .before .before .before .before .before .pre .0) _ (sym (m .line-end .ensures) ∙ c .before .e .given .1)
+    after-ended _ _ (m .before .before .before .before .before .before .before .pre .0) _ (sym (m .line-end .ensures) ∙ c .before .e .given .1)
 
 returns : tie.Need-returns
 returns c =
     let m = c .before .before .before .before .before .before in
-    let s = m .before .before .before .before .before .before in
+    let s = m .before .before .before .before .before .before .before in
     turns-ended _ _ _ _ _ (s .pre .1) (s .pre .0) _ (sym (m .line-end .ensures) ∙ c .before .before .before .before .e .given .1) _ (c .before .block-line .ensures) _ (c .turn-to .ensures)
 
 returns-2 : tie.Need-returns-2
 returns-2 c =
     let m = c .before .before .before .before .before in
-    let s = m .before .before .before .before .before .before in
+    let s = m .before .before .before .before .before .before .before in
     turns-unended _ _ _ _ _ (s .pre .1) (s .pre .0) (sym (m .line-end .ensures) ∙ c .before .before .before .enum-told .given .1) _ (c .before .block-line2 .ensures) _ (c .turn-to2 .ensures)
 
 pub line-at-spec : {M : Type 1} → statement M

@@ -8,13 +8,13 @@ use Rattle.blocks.proofs.record_test.Tie as tie
 put-words-requires : tie.Need-put-words-requires
 put-words-requires c κs =
     let m = c .before .before .before in
-    let s = m .before .before .before .before .before .before .before in
+    let s = m .before .before .before .before .before .before .before .before in
     layout-legible (s .args .line .now) (s .args .ended) (s .args .letter) _ (s .pre) (m .before .record-of .ensures) _ (m .line-layout .ensures) (c .before .enum-told .given .1)
 
 returns : tie.Need-returns
 returns c =
     let m = c .before .before .before in
-    let s = m .before .before .before .before .before .before .before in
+    let s = m .before .before .before .before .before .before .before .before in
     let a = s .args in
     layout-fails (a .line .now) (a .ended) (a .letter) _ (s .pre) (m .before .record-of .ensures)
     (keysFrom (a .counts) (a .companies .now) (a .modes .now) (a .stations .now) (a .footnotes .now)) (a .fresh) (a .stops) _ (m .line-layout .ensures) _ (c .before .why .given .1)
@@ -22,7 +22,7 @@ returns c =
 returns-2 : tie.Need-returns-2
 returns-2 c =
     let m = c .before .before .before .before .before .before .before in
-    let s = m .before .before .before .before .before .before .before in
+    let s = m .before .before .before .before .before .before .before .before in
     let a = s .args in
     layout-passes (a .line .now) (a .ended) (a .letter) _ (s .pre) (m .before .record-of .ensures)
     (keysFrom (a .counts) (a .companies .now) (a .modes .now) (a .stations .now) (a .footnotes .now)) (a .fresh) (a .stops) _ (m .line-layout .ensures)

@@ -8,10 +8,10 @@ use Rattle.keys.proofs.put_place.Statement.{statement}
 use Rattle.keys.proofs.put_place.Tie as tie
 
 abbrev Inv-loop : tie.InvT-loop
-Inv-loop places₀ key row place at₀ end places at = length places ≡ length places₀
+Inv-loop places₀ key row slots place at₀ end places at = length places ≡ length places₀
 
 abbrev μ-loop : tie.MeasureT-loop
-μ-loop places₀ key row place at₀ end places at = end - at
+μ-loop places₀ key row slots place at₀ end places at = end - at
 
 pub put-place-spec : {M : Type 1} → statement M
 put-place-spec =
@@ -20,16 +20,15 @@ put-place-spec =
     Inv-loop
     μ-loop
     (λ c. search needs)
+    (λ c. search needs)
     (λ c. omega arith)
-    (λ c κs. search needs)
+    (λ c κs. omega arith)
     (λ c. omega arith)
     (λ c. refl)
     (λ c. search needs)
+    (λ c. omega arith)
     (λ c. search needs)
-    (λ c. search needs)
-    (λ c. search needs)
-    (λ c. search needs)
-    (λ c. search needs)
+    (λ c. omega arith)
     (λ c. simp length-set (omega arith))
     (λ c. simp length-set (omega arith))
     (λ c. omega arith)

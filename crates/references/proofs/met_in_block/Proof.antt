@@ -22,7 +22,7 @@ returns-3 c k a =
       eq-eqb _ _ (c .before .if3 .taken),
       a .footnotes,
     )
-    (c .names-among2 .ensures)
+    (c .names-at .ensures)
 
 returns-4 : tie.Need-returns-4
 unfolding metInBlock
@@ -34,7 +34,7 @@ returns-4 c k a =
       eq-eqb _ _ (c .before .if4 .taken),
       a .modes,
     )
-    (c .names-among3 .ensures)
+    (c .names-among2 .ensures)
 
 returns-5 : tie.Need-returns-5
 unfolding metInBlock
@@ -47,7 +47,7 @@ returns-5 c k a =
       eq-eqb _ _ (c .before .if5 .taken),
       a .footnotes,
     )
-    (c .names-among4 .ensures)
+    (c .names-at2 .ensures)
 
 returns-6 : tie.Need-returns-6
 unfolding metInBlock
@@ -61,7 +61,7 @@ returns-6 c k a =
       eq-eqb _ _ (c .before .if6 .taken),
       a .footnotes,
     )
-    (c .names-among5 .ensures)
+    (c .names-at3 .ensures)
 
 returns-7 : tie.Need-returns-7
 unfolding metInBlock
@@ -75,7 +75,7 @@ returns-7 c k a =
       ne-eqb _ _ (c .before .if6 .left),
       a .stations,
     )
-    (c .names-among6 .ensures)
+    (c .names-at4 .ensures)
 
 pub met-in-block-spec : {M : Type 1} → statement M
 met-in-block-spec =

@@ -8,7 +8,7 @@ use Rattle.timetbls.proofs.add_block.Tie as tie
 
 -- the place before the first call, from the one after the test
 abbrev start : tie.After-test-block → tie.Start
-start y = y .before .before .before .before .before .before .before .before .before .before
+start y = y .before .before .before .before .before .before .before .before .before .before .before
 
 write-block-requires : tie.Need-write-block-requires
 write-block-requires c κs =
@@ -49,12 +49,12 @@ pub add-block-spec : {M : Type 1} → statement M
 add-block-spec =
     tie.close
     (tie.spec
-    (λ c κs. let s = c .before .before .before .before .before .before .before .before .before in (s .pre .holding .services, s .pre .holding .marked, s .pre .one .opens))
+    (λ c κs. let s = c .before .before .before .before .before .before .before .before .before .before in (s .pre .holding .services, s .pre .holding .marked, s .pre .one .opens))
     (λ c. search needs)
     (λ c. search needs)
     write-block-requires
     add-next
-    (λ c κs. c .before .before .before .before .before .before .before .before .before .before .before .before .before .before .before .before .before .before .pre .holding .marked .wide)
+    (λ c κs. c .before .before .before .before .before .before .before .before .before .before .before .before .before .before .before .before .before .before .before .pre .holding .marked .wide)
     (λ c. search needs)
     (λ c. search needs)
     returns

@@ -8,15 +8,15 @@ use Rattle.timetbls.proofs.add_blocks.Statement.{statement}
 use Rattle.timetbls.proofs.add_blocks.Tie as tie
 
 abbrev Inv-loop : tie.InvT-loop
-Inv-loop text from marks₀ t₀ counts companies modes stations footnotes at₀ row₀ done₀ run₀ marks t at row done run =
+Inv-loop text from marks₀ t₀ counts companies modes stations footnotes places at₀ row₀ done₀ run₀ marks t at row done run =
     Adding text from counts companies modes stations footnotes t₀ t marks at row done run
 
 abbrev μ-loop : tie.MeasureT-loop
-μ-loop text from marks₀ t₀ counts companies modes stations footnotes at₀ row₀ done₀ run₀ marks t at row done run = length text - at
+μ-loop text from marks₀ t₀ counts companies modes stations footnotes places at₀ row₀ done₀ run₀ marks t at row done run = length text - at
 
 loop-holds : tie.Need-loop-holds Inv-loop μ-loop
 loop-holds c =
-    let s = c .before .before .before .before .before .before .before .before in
+    let s = c .before .before .before .before .before .before .before .before .before in
     adding-start _ _ _ _ _ _ _ _ _ (s .pre) _ (c .no-keys .ensures)
 
 next-head-requires : tie.Need-next-head-requires Inv-loop μ-loop
@@ -50,10 +50,10 @@ returns-2 c =
 
 -- there are as many marks as there were
 same-length : tie.Need-same-length Inv-loop μ-loop
-same-length c = c .before .before .before .before .before .before .before .add-block .kept .1 .1 .0 ∙ c .before .before .before .before .before .before .before .before .before .before .before .before .before .loop .inv .holding .marked .wide ∙ sym (c .before .before .before .before .before .before .before .before .before .before .before .before .before .before .before .before .before .before .before .before .before .before .pre .holding .marked .wide)
+same-length c = c .before .before .before .before .before .before .before .add-block .kept .1 .1 .0 ∙ c .before .before .before .before .before .before .before .before .before .before .before .before .before .loop .inv .holding .marked .wide ∙ sym (c .before .before .before .before .before .before .before .before .before .before .before .before .before .before .before .before .before .before .before .before .before .before .before .pre .holding .marked .wide)
 
 same-length-3 : tie.Need-same-length-3 Inv-loop μ-loop
-same-length-3 c = c .before .loop .inv .holding .marked .wide ∙ sym (c .before .before .before .before .before .before .before .before .before .before .pre .holding .marked .wide)
+same-length-3 c = c .before .loop .inv .holding .marked .wide ∙ sym (c .before .before .before .before .before .before .before .before .before .before .before .pre .holding .marked .wide)
 
 pub add-blocks-spec : {M : Type 1} → statement M
 add-blocks-spec =

@@ -7,7 +7,7 @@ use Rattle.timetbls.proofs.read_blocks.Tie as tie
 
 add-blocks-requires : tie.Need-add-blocks-requires
 add-blocks-requires c κs =
-    let e = c .before .before .before in
+    let e = c .before .before .before .before .before .before .before .before .before .before in
     let x = e .before .before in
     let s = x .before .before .before .before .before .before .before in
     blocks-ready _ _ _ (s .pre) _ (x .stray-test .ensures) (e .enum-told .given .1) _ none-marked
@@ -20,7 +20,7 @@ returns c =
 returns-2 : tie.Need-returns-2
 returns-2 c =
     let y = c .before .before .before in
-    let n = y .before .before .before in
+    let n = y .before .before .before .before .before .before .before .before .before .before in
     let e = n .before in
     read-all _ _ _ _ _ _ _ _ (e .before .before .stray-test .ensures) (e .enum-told .given .1) _ (n .count-for-blocks .ensures) _ _ (y .add-blocks .ensures) (y .add-blocks .kept .1 .1 .1 .0)
 
@@ -32,6 +32,11 @@ read-blocks-spec =
     (λ c. search needs)
     (λ c. search needs)
     (λ c κs. search needs)
+    (λ c. search needs)
+    (λ c κs. search needs)
+    (λ c. search needs)
+    (λ c κs. search needs)
+    (λ c. search needs)
     (λ c. search needs)
     add-blocks-requires
     returns

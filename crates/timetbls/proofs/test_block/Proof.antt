@@ -8,7 +8,7 @@ returns : tie.Need-returns
 returns c =
     let f = c .before in
     let v = f .before in
-    let s = v .before .before .before .before .before .before .before .before in
+    let s = v .before .before .before .before .before .before .before .before .before in
     let a = s .args in
     tested (a .block .now) (a .t .now) (a .counts) (a .companies .now) (a .modes .now) (a .stations .now) (a .footnotes .now) _ _ _ (s .pre .2) (v .service-of .ensures) (f .is-fresh-service .ensures) (c .check-block .ensures)
 
@@ -17,6 +17,6 @@ test-block-spec =
     tie.close
     (tie.spec
     (λ c κs. search needs)
-    (λ c κs. let s = c .before .before .before .before .before .before .before .before in (s .pre .0, s .pre .1))
+    (λ c κs. let s = c .before .before .before .before .before .before .before .before .before in (s .pre .0, s .pre .1))
     (λ c κs. search needs)
     returns)
