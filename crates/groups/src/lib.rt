@@ -420,17 +420,43 @@ fn add_groups(
     RowsRead::AllRead(run.rises)
 }
 
-// Only CHANGES names services, so for another file no place is looked for.
-fn place_services(file: File, services: &[u64], used: usize, places: &mut [u32])
-    ensures { λ _. ⌜ length (now (places .exit)) ≡ length (now (places .entry)) ⌝ }
+// The same for CHANGES, which alone names services: their places are found before the first line. There are 131071 first slots for them, which is a
+// prime number, and eight more for those that the last of these are too few for.
+fn add_placed(
+    file: File,
+    days: usize,
+    text: &[u8],
+    from: usize,
+    t: &mut [u64],
+    counts: GroupCounts,
+    companies: &[u64],
+    modes: &[u64],
+    stations: &[u64],
+    services: &[u64],
+    xfootnotes: &[u64],
+) -> RowsRead
+    requires { ⌜ Groups file from (now text) (now t) ⌝ }
+    ensures { λ r. ⌜ RowsDone file days (λ c. GroupKeysAmong c counts (now (companies .entry)) (now (modes .entry)) (now (stations .entry)) (now (services .entry)) (now (xfootnotes .entry))) (λ c. groupsVerdict c file (lines (drop from (now (text .entry))))) (take (rowWidth file) (now (t .entry))) (map (rowOf days file) (lines (drop from (now (text .entry))))) (now (t .entry)) (now (t .exit)) r ⌝ }
 {
-    if let File::Changes = file {
-        keys::index_services(services, used, places);
-    }
+    let mut places = [0u32; 131079];
+    keys::index_services(services, counts.services, &mut places);
+    add_groups(
+        file,
+        days,
+        text,
+        from,
+        t,
+        counts,
+        companies,
+        modes,
+        stations,
+        services,
+        &places,
+        xfootnotes,
+    )
 }
 
-// The same, with the rows in use of the other tables counted before the first line, and not again, and with the places of services found then too.
-// There are 131071 first slots for them, which is a prime number, and eight more for those that the last of these are too few for.
+// The lines of any file of groups, with the rows in use of the other tables counted before the first, and not again.
 pub fn read_groups(
     file: File,
     days: usize,
@@ -447,8 +473,22 @@ pub fn read_groups(
     ensures { λ r. ⌜ RowsDone file days (λ c. GroupKeys c (now (companies .entry)) (now (modes .entry)) (now (stations .entry)) (now (services .entry)) (now (xfootnotes .entry))) (λ c. groupsVerdict c file (lines (drop from (now (text .entry))))) (take (rowWidth file) (now (t .entry))) (map (rowOf days file) (lines (drop from (now (text .entry))))) (now (t .entry)) (now (t .exit)) r ⌝ }
 {
     let counts = references::count_for_groups(companies, modes, stations, services, xfootnotes);
-    let mut places = [0u32; 131079];
-    place_services(file, services, counts.services, &mut places);
+    if let File::Changes = file {
+        return add_placed(
+            file,
+            days,
+            text,
+            from,
+            t,
+            counts,
+            companies,
+            modes,
+            stations,
+            services,
+            xfootnotes,
+        );
+    }
+    let no_places = [0u32; 1];
     add_groups(
         file,
         days,
@@ -460,7 +500,7 @@ pub fn read_groups(
         modes,
         stations,
         services,
-        &places,
+        &no_places,
         xfootnotes,
     )
 }

@@ -7,7 +7,12 @@ use Rattle.groups.proofs.read_groups.Tie as tie
 returns : tie.Need-returns
 returns c =
     let y = c .before .before in
-    done-for _ _ _ _ (y .before .before .before .before .before .before .count-for-groups .ensures) _ _ _ _ _ _ (y .add-groups .ensures)
+    done-for _ _ _ _ (y .before .before .before .before .count-for-groups .ensures) _ _ _ _ _ _ (y .add-placed .ensures)
+
+returns-2 : tie.Need-returns-2
+returns-2 c =
+    let y = c .before .before in
+    done-for _ _ _ _ (y .before .before .before .before .count-for-groups .ensures) _ _ _ _ _ _ (y .add-groups .ensures)
 
 pub read-groups-spec : {M : Type 1} → statement M
 read-groups-spec =
@@ -17,6 +22,8 @@ read-groups-spec =
     (λ c. search needs)
     (λ c κs. search needs)
     (λ c. search needs)
+    returns
+    (λ c. search needs)
     (λ c κs. search needs)
     (λ c. search needs)
-    returns)
+    returns-2)
