@@ -52,7 +52,8 @@ impl Answer {
 
 /// Loads a delivery into eleven tables. Files and tables stand in reading
 /// order; an absent file is empty. A refused load leaves every table zero.
-/// Linked into this program it needs some 1.2 MB of the thread's stack.
+/// Linked into this program it needs some 1.2 MB of the thread's stack, as
+/// reckoned from its arrays.
 pub fn load(files: [&[u8]; FILES], tables: [&mut [u64]; FILES]) -> Answer {
     Answer::of(call(files, tables))
 }
