@@ -5,8 +5,8 @@ use mathlib.Core.Bool.{Bool, true, false, _||_}
 use lib.ListN.{length, take, drop}
 use Rattle.iff.specs.Lists.{same}
 use Rattle.iff.specs.Refusals.{orTest, firstTest, unless}
-use Rattle.iff.specs.Lines.{Line, letter}
-use Rattle.iff.specs.Columns.{Field, fieldsOf, laid}
+use Rattle.iff.specs.Lines.{Line}
+use Rattle.iff.specs.Columns.{Field, laid}
 use Rattle.iff.specs.Values.{readable}
 use Rattle.iff.specs.Tables.{Row, keysOf}
 use Rattle.iff.specs.declared.File.{File}
@@ -15,7 +15,7 @@ use Rattle.iff.specs.declared.Reason.the-variants.{Layout, Value, Duplicate, Re
 use Rattle.iff.specs.declared.Test.{Test}
 use Rattle.iff_rules.specs.Rows.{rowOf, Context}
 use Rattle.iff_rules.specs.Meaning.{meaning}
-use Rattle.iff_rules.specs.Unique.{freshKey, freshTexts, freshInGroup}
+use Rattle.iff_rules.specs.Unique.{freshKey, freshTexts}
 use Rattle.iff_rules.specs.References.{met}
 
 -- the bytes of a line that was ended
@@ -64,15 +64,5 @@ plainRowTest c f earlier l r =
     (unless (meaning f (length earlier) r) Value
     ∷ unless (freshKey f (keysOf f (map (rowOf (c .days) f) earlier)) r) Duplicate
     ∷ unless (freshTexts f earlier l) Duplicate
-    ∷ unless (met c f r) Reference
-    ∷ [])
-
--- a row of a group, after some rows of it, and after groups with some keys
-unfoldable pub groupRowTest : Context → File → List ℕ → List Row → Row → Test
-groupRowTest c f seen earlier r =
-    firstTest
-    (unless (meaning f (length earlier) r) Value
-    ∷ unless (freshKey f seen r) Duplicate
-    ∷ unless (freshInGroup f (drop 1 earlier) r) Duplicate
     ∷ unless (met c f r) Reference
     ∷ [])

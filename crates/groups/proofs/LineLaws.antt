@@ -2,84 +2,37 @@
 use Prim.Native.Nat.{ℕ, zero, suc, _+_, _-_, _≤_}
 use mathlib.Core.Path.{_≡_, refl, ap, sym, _∙_}
 use mathlib.Core.List.{List, [], _∷_}
-use mathlib.Core.Bool.{Bool, true, false, _&&_, cond, not, and-true, false≢true, true≢false}
+use mathlib.Core.Bool.{Bool, true, false, _&&_, not, and-true}
 use native.Mathlib.Numerals.{add-one}
 use native.Mathlib.Omega.{arith}
 use borrow.Author.Tests.{eq-eqb, ne-eqb}
-use lib.Dec.{eqb, lit≤}
+use lib.Dec.{eqb}
 use lib.ListN.{length, drop}
 use Rattle.iff.specs.Bytes.{hash, at}
 use Rattle.iff.specs.Lists.{any, has}
 use Rattle.iff.specs.Refusals.{orTest, firstTest, unless}
 use Rattle.iff.specs.Lines.{Line, letter}
-use Rattle.iff.specs.Columns.{recordFields, recordOf, fieldsOf}
-use Rattle.iff.specs.Values.{wordCount}
-use Rattle.iff.specs.Tables.{Row, word, tag, rowWidth, letterless}
+use Rattle.iff.specs.Columns.{recordOf, fieldsOf}
+use Rattle.iff.specs.Tables.{Row, word, tag, rowWidth}
 use Rattle.iff.specs.declared.File.{File}
-use Rattle.iff.specs.declared.File.the-variants.{Delivery, Company, Country, Trnsmode, Timezone, Stations, Footnote, Timetbls, Changes, Xfootnote, Xchanges}
 use Rattle.iff.specs.declared.Record.{Record}
-use Rattle.iff.specs.declared.Record.the-variants.{ZoneHead, ZonePeriod, FootnoteHead, FootnoteVector, ChangeHead, ChangePair, ChangeException}
 use Rattle.iff.specs.declared.Reason.{Reason}
 use Rattle.iff.specs.declared.Reason.the-variants.{Layout, Value, Duplicate, Reference, Order}
 use Rattle.iff.specs.declared.Test.{Test}
 use Rattle.iff.specs.declared.Test.the-variants.{Passes, Fails}
-use Rattle.iff_rules.specs.Order.{known, mayFollow, inGroup, oneVector, tagOf}
+use Rattle.iff_rules.specs.Order.{known, mayFollow, tagOf}
 use Rattle.iff_rules.specs.Rows.{rowOf, Context}
 use Rattle.iff_rules.specs.Meaning.{meaning}
 use Rattle.iff_rules.specs.Unique.{freshKey, freshInGroup, clash}
 use Rattle.iff_rules.specs.References.{met}
 use Rattle.references.specs.Agree.{isGroupFile}
+use Rattle.records.proofs.FileLaws.{row-tag, known-used}
 use Rattle.keys.specs.Blocks.{blockOfRows, rowsBetween}
 use Rattle.groups.specs.Tests.{placeTest, layoutTest, groupRowTest}
 use Rattle.groups.specs.Facts.{LineRead, RowMade, openRows}
-use Rattle.groups.proofs.TestLaws.{key-tag, key-word, row-tag}
+use Rattle.groups.proofs.TestLaws.{key-tag, key-word}
 
 -- THE ROW OF A LINE
--- a row has room for its record's words
-abbrev fitsIn : ℕ → ℕ → Record → Type 0
-fitsIn days w r = suc (wordCount (recordFields days r)) ≤ w
-
-either : (days w : ℕ) (b : Bool) (r q : Record) → fitsIn days w r → fitsIn days w q → fitsIn days w (cond b r q)
-either days w true r q x y = x
-either days w false r q x y = y
-
-pub row-room : (days : ℕ) (f : File) → isGroupFile f ≡ true → (x : ℕ) → suc (wordCount (recordFields days (recordOf f x))) ≤ rowWidth f
-unfolding recordOf recordFields
-row-room days Delivery e x = absurd (false≢true e)
-row-room days Company e x = absurd (false≢true e)
-row-room days Country e x = absurd (false≢true e)
-row-room days Trnsmode e x = absurd (false≢true e)
-row-room days Timezone e x = either days 6 (eqb x hash) ZoneHead ZonePeriod (lit≤ tt) (lit≤ tt)
-row-room days Stations e x = absurd (false≢true e)
-row-room days Footnote e x = either days 14 (eqb x hash) FootnoteHead FootnoteVector (lit≤ tt) (lit≤ tt)
-row-room days Timetbls e x = absurd (false≢true e)
-row-room days Changes e x = either days 6 (eqb x hash) ChangeHead ChangePair (lit≤ tt) (lit≤ tt)
-row-room days Xfootnote e x = either days 14 (eqb x hash) FootnoteHead FootnoteVector (lit≤ tt) (lit≤ tt)
-row-room days Xchanges e x = either days 7 (eqb x hash) ChangeHead ChangeException (lit≤ tt) (lit≤ tt)
-
--- a row of a known letter is in use
-vector-used : (a b : Bool) → eqb (cond a hash (cond b at letterless)) 0 ≡ false
-vector-used true b = refl
-vector-used false true = refl
-vector-used false false = refl
-
-letter-used : (f : File) (x : ℕ) → known f 0 ≡ false → known f x ≡ true → eqb x 0 ≡ false
-letter-used f x z k = ne-eqb x 0 (λ e. true≢false (sym k ∙ (ap (known f) e ∙ z)))
-
-pub known-used : (f : File) → isGroupFile f ≡ true → (x : ℕ) → known f x ≡ true → eqb (tagOf f x) 0 ≡ false
-unfolding any
-known-used Delivery e x k = absurd (false≢true e)
-known-used Company e x k = absurd (false≢true e)
-known-used Country e x k = absurd (false≢true e)
-known-used Trnsmode e x k = absurd (false≢true e)
-known-used Timezone e x k = letter-used Timezone x refl k
-known-used Stations e x k = absurd (false≢true e)
-known-used Footnote e x k = vector-used (eqb x hash) (eqb x at)
-known-used Timetbls e x k = absurd (false≢true e)
-known-used Changes e x k = letter-used Changes x refl k
-known-used Xfootnote e x k = vector-used (eqb x hash) (eqb x at)
-known-used Xchanges e x k = letter-used Xchanges x refl k
-
 -- a test that passes, after another
 pub passes-first : (s t : Test) → Passes ≡ orTest s t → Passes ≡ s
 passes-first Passes t e = refl
@@ -116,7 +69,7 @@ module _ (f : File) (e : isGroupFile f ≡ true) (days size : ℕ) (l : Line) (w
         row = λ n. a .row n ∙ rw (k, g, wide);
         used = λ n.
             ap (λ (x : ℕ). eqb x 0) (row-tag days f l)
-            ∙ known-used f e (letter l) (unless-true (known f (letter l)) Layout (passes-first (unless (known f (letter l)) Layout) (unless (mayFollow f size (tagOf f (letter l))) Order) (sym h ∙ q)));
+            ∙ known-used f (letter l) (unless-true (known f (letter l)) Layout (passes-first (unless (known f (letter l)) Layout) (unless (mayFollow f size (tagOf f (letter l))) Order) (sym h ∙ q)));
         kept = a .kept;
       }
 

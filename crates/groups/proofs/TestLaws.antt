@@ -10,7 +10,7 @@ use Rattle.iff.specs.Refusals.{orTest, firstTest, unless}
 use Rattle.iff.specs.Lines.{Line, letter, isHash}
 use Rattle.iff.specs.Columns.{fieldsOf, laid}
 use Rattle.iff.specs.Values.{readable}
-use Rattle.iff.specs.Tables.{Row, tag, padded, keyTag, keyWord, letterless}
+use Rattle.iff.specs.Tables.{Row, tag, keyTag, keyWord, letterless}
 use Rattle.iff.specs.declared.File.{File}
 use Rattle.iff.specs.declared.File.the-variants.{Delivery, Company, Country, Trnsmode, Timezone, Stations, Footnote, Timetbls, Changes, Xfootnote, Xchanges}
 use Rattle.iff.specs.declared.Reason.the-variants.{Layout, Value, Duplicate, Reference, Order}
@@ -22,6 +22,7 @@ use Rattle.iff_rules.specs.References.{met}
 use Rattle.iff_rules.specs.Load.{groupTest}
 use Rattle.references.specs.Agree.{isGroupFile}
 use Rattle.keys.specs.Lookup.{isKeyRow}
+use Rattle.records.proofs.FileLaws.{row-tag}
 use Rattle.groups.specs.Tests.{placeTest, layoutTest, groupRowTest}
 
 split : (n h l v m x r : Bool) → firstTest (unless n Layout ∷ unless h Order ∷ unless l Layout ∷ unless true Value ∷ unless (v && m) Value ∷ unless x Duplicate ∷ unless r Reference ∷ [])
@@ -48,11 +49,6 @@ group-split c f seen earlier l =
     (meaning f (length earlier) (rowOf (c .days) f l))
     (freshKey f seen (rowOf (c .days) f l) && freshInGroup f (drop 1 earlier) (rowOf (c .days) f l))
     (met c f (rowOf (c .days) f l))
-
--- the first word of a row is its tag
-pub row-tag : (days : ℕ) (f : File) (l : Line) → tag (rowOf days f l) ≡ tagOf f (letter l)
-unfolding rowOf padded
-row-tag days f l = refl
 
 vector-hash : (a b : Bool) → eqb (cond a hash (cond b at letterless)) hash ≡ a
 vector-hash true b = refl

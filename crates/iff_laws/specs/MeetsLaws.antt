@@ -55,7 +55,7 @@ unless-true r e = rw e
 stray-fails : (b : Bool) → lineTest (strayTests b) ≡ Passes → ⊥
 stray-fails b e = false≢true (line-passes (strayTests b) .0 e .is-here)
 
-stray-none : (f : File) (ls : List Line) → strayVerdict f ls ≡ Fine → ls ≡ []
+pub stray-none : (f : File) (ls : List Line) → strayVerdict f ls ≡ Fine → ls ≡ []
 stray-none f [] e = refl
 stray-none f (l ∷ ls) e = absurd (stray-fails (known f (letter l)) (verdict-fine _ _ e))
 

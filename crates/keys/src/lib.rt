@@ -176,8 +176,23 @@ fn found_by_scan(file: iff::File, t: &[u64], used: usize, key: u64) -> bool
     false
 }
 
-// A search over the blocks of TIMETBLS, from each `#` to the next by the number of lines that it tells. A row is tested before it is called found here
-// too, so nothing rests on those numbers.
+// Where the block after the one in row `i` begins, by the number of lines that its `#` tells; the end of the rows where a number leads nowhere.
+fn next_block(t: &[u64], rows: usize, i: usize) -> usize
+    requires { ⌜ (i < rows) × (i * 7 + 7 ≤ length (now t)) ⌝ }
+    ensures { λ r. ⌜ (i < r) × (r ≤ rows) ⌝ }
+{
+    let lines = tables::word_at(t, 7, i, 2) as usize;
+    if lines == 0 {
+        return rows;
+    }
+    if rows - i <= lines {
+        return rows;
+    }
+    i + lines
+}
+
+// A search over the blocks of TIMETBLS, from each `#` to the next. A row is tested before it is called found here too, so nothing rests on the
+// numbers of lines.
 fn found_by_blocks(t: &[u64], used: usize, key: u64) -> bool
     ensures { λ r. ⌜ (r ≡ true → has key (keysAmong Timetbls used (now (t .entry))) ≡ true) ⌝ }
 {
@@ -187,14 +202,7 @@ fn found_by_blocks(t: &[u64], used: usize, key: u64) -> bool
         if tables::keyed_at(t, 7, i, HASH, 1, key) {
             return true;
         }
-        let lines = tables::word_at(t, 7, i, 2) as usize;
-        if lines == 0 {
-            return false;
-        }
-        if rows - i <= lines {
-            return false;
-        }
-        i += lines;
+        i = next_block(t, rows, i);
     }
     false
 }
@@ -260,7 +268,7 @@ pub fn index_rows(file: iff::File, t: &[u64], used: usize, places: &mut [u32])
     }
 }
 
-// Puts the services of TIMETBLS into their slots, going from each `#` to the next as the search over blocks does.
+// Puts the services of TIMETBLS into their slots, from each `#` to the next.
 pub fn index_services(t: &[u64], used: usize, places: &mut [u32])
     ensures { λ _. ⌜ length (now (places .exit)) ≡ length (now (places .entry)) ⌝ }
 {
@@ -269,14 +277,7 @@ pub fn index_services(t: &[u64], used: usize, places: &mut [u32])
     while i < rows {
         let key = tables::word_at(t, 7, i, 1);
         put_place(places, key, i);
-        let lines = tables::word_at(t, 7, i, 2) as usize;
-        if lines == 0 {
-            return;
-        }
-        if rows - i <= lines {
-            return;
-        }
-        i += lines;
+        i = next_block(t, rows, i);
     }
 }
 

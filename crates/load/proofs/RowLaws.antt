@@ -2,24 +2,23 @@
 use Prim.Native.Nat.{ℕ, suc, _+_, _/_, _≤_}
 use mathlib.Core.Path.{_≡_, refl, ap}
 use mathlib.Core.List.{List, [], _∷_, map}
-use mathlib.Core.Bool.{Bool, true, false, cond, false≢true}
+use mathlib.Core.Bool.{Bool, true, false, cond}
 use native.Mathlib.Nat.{le-div-iff-mul-le}
 use native.Mathlib.Omega.{arith}
 use lib.Dec.{eqb}
 use lib.ListN.{length, length-append}
 use Rattle.iff.specs.Bytes.{hash, at}
 use Rattle.iff.specs.Lists.{Group, front, groups, members, same}
-use Rattle.iff.specs.Refusals.{firstTest, verdictAt, passing, scan}
+use Rattle.iff.specs.Refusals.{verdictAt, scan}
 use Rattle.iff.specs.Lines.{Line, letter, isHash}
 use Rattle.iff.specs.Values.{words, fieldWords}
 use Rattle.iff.specs.Tables.{letterless, rowWidth, padded, fill, keysOf}
 use Rattle.iff.specs.declared.File.{File}
 use Rattle.iff.specs.declared.File.the-variants.{Delivery, Company, Country, Trnsmode, Timezone, Stations, Footnote, Timetbls, Changes, Xfootnote, Xchanges}
 use Rattle.iff.specs.declared.Place.the-variants.{At}
-use Rattle.iff.specs.declared.Test.the-variants.{Passes}
 use Rattle.iff.specs.declared.Verdict.{Verdict}
 use Rattle.iff.specs.declared.Verdict.the-variants.{Fine}
-use Rattle.iff_rules.specs.Order.{lineTest, strayTests, known, tagOf, vectorTag}
+use Rattle.iff_rules.specs.Order.{known, tagOf, vectorTag}
 use Rattle.iff_rules.specs.Rows.{rowOf, blockRowsFrom, blockRows, blocksRows, blocksOf, stopsIn, linesIn, firstRowOf, laterRows, rowsOfLines, Context}
 use Rattle.iff_rules.specs.Load.{firstLineTest, groupTest, groupVerdict, groupsVerdict, blockTest, blockVerdict, timetblsVerdict, strayVerdict, fileVerdict, Between, blockStart}
 use Rattle.iff_laws.specs.ScanLaws.{or-fine, cons-fine, verdict-fine}
@@ -30,15 +29,11 @@ use Rattle.records.proofs.FileLaws.{row-used, known-used}
 use Rattle.legs.proofs.RowLaws.{tag-is}
 use Rattle.timetbls.proofs.RowLaws.{block-row-length, rows-count}
 use Rattle.keys.specs.Lookup.{keysIn}
+use Rattle.iff_laws.specs.MeetsLaws.{stray-none}
 use Rattle.tables.proofs.Widths.{widths}
 use Rattle.keys.proofs.Fills.{keys-in-fill}
 
 -- LINES THAT PASSED
-stray-fails : (b : Bool) → lineTest (strayTests b) ≡ Passes → ⊥
-unfolding lineTest firstTest
-stray-fails true e = false≢true (ap passing e)
-stray-fails false e = false≢true (ap passing e)
-
 -- what every entry of a scan without fault has
 module _ {S A : Type 0} (test : S → ℕ → A → Verdict) (next : S → A → S) (P : A → Type 0) (h : (st : S) (i : ℕ) (x : A) → test st i x ≡ Fine → P x) where
   scan-each : (st : S) (i : ℕ) (xs : List A) → scan test next st i xs ≡ Fine → Each P xs
@@ -63,10 +58,6 @@ module _ (P : Line → Type 0) where
       go true e g ih = (g .0 .0, ih (g .0 .1) (g .1))
       go false e g ih = (e .0, ih (e .1) g)
 
-no-stray : (f : File) (ls : List Line) → strayVerdict f ls ≡ Fine → ls ≡ []
-no-stray f [] e = refl
-no-stray f (l ∷ ls) e = absurd (stray-fails (known f (letter l)) (verdict-fine _ _ e))
-
 abbrev Known : File → Line → Type 0
 Known f l = known f (letter l) ≡ true
 
@@ -84,7 +75,7 @@ module _ (c : Context) (f : File) where
   groups-known ls e =
       let p = cons-fine (strayVerdict f (front isHash ls)) _ e in
       let q = cons-fine _ _ (p .1) in
-      each-line (Known f) ls (none-before f (front isHash ls) (no-stray f (front isHash ls) (p .0)))
+      each-line (Known f) ls (none-before f (front isHash ls) (stray-none f (front isHash ls) (p .0)))
       (scan-each _ _ (λ g. Each (Known f) (members g)) (λ (b : Between) o g r. group-known (b .seen) (b .line) g r) (record { seen = []; line = 2 }) 1 (blocksOf ls) (q .0))
 
 module _ (c : Context) where

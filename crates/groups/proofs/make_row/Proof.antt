@@ -3,20 +3,22 @@ use Prim.Native.Nat.{suc, _≤_}
 use mathlib.Core.Path.{ap, _∙_}
 use native.Mathlib.Omega.{arith}
 use borrow.Author.Needs.{needs}
-use Rattle.iff.specs.Columns.{recordFields, recordOf}
+use Rattle.iff.specs.Columns.{recordFields, recordOf, fieldsOf}
 use Rattle.iff.specs.Values.{wordCount}
 use Rattle.iff.specs.Tables.{rowWidth}
 use Rattle.iff_rules.specs.Order.{tagOf}
+use Rattle.records.proofs.FileLaws.{row-room}
 use Rattle.groups.specs.Tests.{placeTest}
-use Rattle.groups.proofs.LineLaws.{row-room, place-fails, place-passes}
+use Rattle.groups.proofs.LineLaws.{place-fails, place-passes}
 use Rattle.groups.proofs.make_row.Statement.{statement}
 use Rattle.groups.proofs.make_row.Tie as tie
 
 read-line-requires : tie.Need-read-line-requires
+unfolding fieldsOf
 read-line-requires c κs =
     let s = c .before .before .before .before .before .before .before .before .before in
     let h : suc (wordCount (recordFields (s .args .days) (c .before .before .record-of .result))) ≤ rowWidth (s .args .file) =
-    rw (c .before .before .record-of .ensures) (row-room (s .args .days) (s .args .file) (s .pre .0) (c .before .before .before .before .before .before .first-byte .result)) in
+    rw (c .before .before .record-of .ensures) (row-room (s .args .days) (s .args .file) (c .before .before .before .before .before .before .first-byte .result)) in
     omega (arith, s .pre .1)
 
 returns : tie.Need-returns

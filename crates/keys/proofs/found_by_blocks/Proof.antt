@@ -18,8 +18,8 @@ abbrev μ-loop : tie.MeasureT-loop
 keyed-at-requires : tie.Need-keyed-at-requires Inv-loop μ-loop
 keyed-at-requires c κs = (omega arith, row-among _ (c .before .before .before .before .args .used) _ _ (c .before .before .rows-among .ensures) _ (c .loop-test .taken))
 
-word-at-requires : tie.Need-word-at-requires Inv-loop μ-loop
-word-at-requires c κs = (omega arith, row-among _ (c .before .before .before .before .before .before .args .used) _ _ (c .before .before .before .before .rows-among .ensures) _ (c .before .before .loop-test .taken))
+next-block-requires : tie.Need-next-block-requires Inv-loop μ-loop
+next-block-requires c κs = (c .before .before .loop-test .taken, keyed-at-requires (c .before .before) κs .1)
 
 returns : tie.Need-returns Inv-loop μ-loop
 returns c e =
@@ -36,11 +36,7 @@ found-by-blocks-spec =
     (λ c. omega arith)
     keyed-at-requires
     returns
-    word-at-requires
-    (λ c e. absurd (false≢true e))
-    (λ c. search needs)
-    (λ c e. absurd (false≢true e))
-    (λ c. search needs)
-    (λ c. omega arith)
-    (λ c. omega arith)
+    next-block-requires
+    (λ c. omega (arith, c .next-block .ensures))
+    (λ c. omega (arith, c .next-block .ensures))
     (λ c e. absurd (false≢true e)))

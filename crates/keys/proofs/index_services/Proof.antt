@@ -17,8 +17,10 @@ abbrev μ-loop : tie.MeasureT-loop
 word-at-requires : tie.Need-word-at-requires Inv-loop μ-loop
 word-at-requires c κs = (omega arith, row-among _ (c .before .before .before .before .before .args .used) _ _ (c .before .before .rows-among .ensures) _ (c .loop-test .taken))
 
-word-at-requires-2 : tie.Need-word-at-requires-2 Inv-loop μ-loop
-word-at-requires-2 c κs = (omega arith, word-at-requires (c .before .before .before .before .before) κs .1)
+next-block-requires : tie.Need-next-block-requires Inv-loop μ-loop
+next-block-requires c κs =
+    let t = c .before .before .before .before .before in
+    (t .loop-test .taken, word-at-requires t κs .1)
 
 pub index-services-spec : {M : Type 1} → statement M
 index-services-spec =
@@ -30,14 +32,8 @@ index-services-spec =
     (λ c. refl)
     word-at-requires
     (λ c κs. search needs)
-    word-at-requires-2
-    (λ c. search needs)
-    (λ c. search needs)
-    (λ c. search needs)
-    (λ c. search needs)
-    (λ c. search needs)
-    (λ c. search needs)
-    (λ c. search needs)
+    next-block-requires
+    (λ c. omega (arith, c .next-block .ensures))
     (λ c. search needs)
     (λ c. search needs)
     (λ c. search needs))
