@@ -28,6 +28,20 @@ pub fn written(day: i64) -> u64 {
     day as u64 * 1_000_000 + month as u64 * 10_000 + year as u64
 }
 
+/// The day with this number DDMMYYYY, which must be that of a day.
+pub fn counted(date: u64) -> i64 {
+    let in_order = |date: u64| (date % 10_000, date / 10_000 % 100, date / 1_000_000);
+    let (mut first, mut last) = (0, LAST);
+    while first < last {
+        let middle = (first + last) / 2;
+        match in_order(written(middle)) < in_order(date) {
+            true => first = middle + 1,
+            false => last = middle,
+        }
+    }
+    first
+}
+
 #[cfg(test)]
 mod tests {
     use super::*;
@@ -47,6 +61,7 @@ mod tests {
         ];
         for (day, date) in known {
             assert_eq!(written(day), date);
+            assert_eq!(counted(date), day);
         }
     }
 

@@ -1,5 +1,6 @@
 //! Cases for a load: eleven files with rooms in lines.
 
+use crate::causes::causes;
 use crate::damage::{damage, lines_in};
 use crate::rng::Rng;
 use crate::shape::Shape;
@@ -30,6 +31,20 @@ pub fn sound(seed: u64) -> (World, Case) {
     let mut rng = Rng::new(seed);
     let shape = Shape::small(&mut rng);
     shaped(&mut rng, &shape)
+}
+
+/// A small sound delivery that also stands at the borders of today's rules.
+pub fn at_borders(seed: u64) -> (World, Case) {
+    let mut rng = Rng::new(seed);
+    let shape = Shape { at_borders: true, ..Shape::small(&mut rng) };
+    shaped(&mut rng, &shape)
+}
+
+/// A sound delivery with two and more of everything and all files there.
+pub fn full(seed: u64) -> Case {
+    let mut rng = Rng::new(seed);
+    let shape = Shape::full(&mut rng);
+    shaped(&mut rng, &shape).1
 }
 
 fn shaped(rng: &mut Rng, shape: &Shape) -> (World, Case) {
@@ -111,12 +126,19 @@ pub fn limit(seed: u64, limit: Limit) -> Case {
     case
 }
 
-/// Any of these: sound, at a limit or damaged.
+/// Any of these: sound, at the borders, at a limit, with one cause or damaged.
 pub fn mixed(seed: u64) -> Case {
     let mut rng = Rng::new(seed.wrapping_mul(0xD134_2543_DE82_EF95));
     match rng.below(100) {
-        0..=34 => sound(seed).1,
-        35..=37 => limit(seed, *rng.pick(&limits())),
+        0..=29 => sound(seed).1,
+        30..=37 => at_borders(seed).1,
+        38..=39 => limit(seed, *rng.pick(&limits())),
+        40..=54 => caused(seed, &mut rng),
         _ => damaged(seed),
     }
+}
+
+fn caused(seed: u64, rng: &mut Rng) -> Case {
+    let cause = rng.pick(causes());
+    cause.case(seed).map_or_else(|| damaged(seed), |(case, _)| case)
 }

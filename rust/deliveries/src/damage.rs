@@ -2,7 +2,7 @@
 #![allow(clippy::ptr_arg)] // Edits have one type, whether or not they add lines.
 
 use crate::cases::Case;
-use crate::fields::{self, Class, Field};
+use crate::fields::{self, get, put, Class, Field};
 use crate::place::*;
 use crate::rng::Rng;
 use crate::text::{code, free, join, number, split};
@@ -165,16 +165,6 @@ fn copy_key(rng: &mut Rng, file: usize, lines: &mut Vec<Vec<u8>>) {
     put(&mut lines[place], field, &value);
 }
 
-fn put(line: &mut [u8], Field(first, last, _): Field, value: &[u8]) {
-    if line.len() >= last {
-        line[first - 1..last].copy_from_slice(value);
-    }
-}
-
-fn get(line: &[u8], Field(first, last, _): Field) -> Vec<u8> {
-    line.get(first - 1..last).map_or_else(|| vec![b' '; last + 1 - first], <[u8]>::to_vec)
-}
-
 /// The same field of another record of the kind: a duplicate, or a reference
 /// that is met but breaks the legs or the order of times.
 fn sibling(rng: &mut Rng, file: usize, lines: &[Vec<u8>], place: usize, field: Field) -> Vec<u8> {
@@ -208,9 +198,8 @@ const STOPS: &[&[u8]] = &[b"000", b"001", b"002", b"003", b"004", b"005", b"998"
 
 /// A value at the border of what the field may hold.
 fn border_value(rng: &mut Rng, field: Field, line: &[u8]) -> Vec<u8> {
-    let Field(first, last, class) = field;
-    let width = last + 1 - first;
-    match class {
+    let width = field.width();
+    match field.class {
         Class::Day => rng.pick(DAYS).to_vec(),
         Class::Time => rng.pick(TIMES).to_vec(),
         Class::Stop => rng.pick(STOPS).to_vec(),

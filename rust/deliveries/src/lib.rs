@@ -8,6 +8,7 @@
 pub mod amendments;
 mod calendar;
 pub mod cases;
+pub mod causes;
 mod damage;
 mod fields;
 pub mod folder;
@@ -19,7 +20,8 @@ mod text;
 mod world;
 
 pub use amendments::{amendment, edited, Amendment};
-pub use cases::{damaged, large, limit, limits, mixed, sound, Case, Limit};
+pub use cases::{at_borders, damaged, large, limit, limits, mixed, sound, Case, Limit};
+pub use causes::{causes, Cause};
 pub use damage::TELLING_BYTES;
 pub use questions::{question, Question};
 pub use rng::Rng;

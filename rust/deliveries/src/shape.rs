@@ -21,6 +21,10 @@ pub struct Shape {
     /// Rows for each of them.
     pub change_rows: RangeInclusive<usize>,
     pub rising: bool,
+    /// Whether the delivery also stands where rules may one day be narrower:
+    /// zones with days between their periods or none after the last day of
+    /// validity, attributes at a single stop, days at the calendar's end.
+    pub at_borders: bool,
     /// Whether the last three files are there at all.
     pub changes: bool,
     pub xfootnotes: bool,
@@ -44,9 +48,31 @@ impl Shape {
             change_stations: 0..=6,
             change_rows: 0..=8,
             rising: rng.percent(50),
+            at_borders: false,
             changes: rng.percent(70),
             xfootnotes: xchanges || rng.percent(30),
             xchanges,
+        }
+    }
+
+    /// Two and more of everything, and all files there.
+    pub fn full(rng: &mut Rng) -> Shape {
+        Shape {
+            days: 2..=40,
+            companies: 2..=4,
+            countries: 2..=3,
+            modes: 2..=5,
+            zones: 2..=3,
+            stations: 3..=8,
+            footnotes: 2..=5,
+            services: 2..=5,
+            stops: 3..=7,
+            change_stations: 2..=5,
+            change_rows: 2..=8,
+            changes: true,
+            xfootnotes: true,
+            xchanges: true,
+            ..Shape::small(rng)
         }
     }
 
@@ -67,6 +93,7 @@ impl Shape {
             change_stations: stations / 4..=stations / 4,
             change_rows: 0..=20,
             rising,
+            at_borders: false,
             changes: true,
             xfootnotes: true,
             xchanges: true,

@@ -21,6 +21,7 @@ pub struct Service {
 pub struct World {
     pub first_day: i64,
     pub days: usize,
+    pub at_borders: bool,
     pub companies: Vec<u64>,
     pub countries: Vec<Vec<u8>>,
     pub modes: Vec<Vec<u8>>,
@@ -73,6 +74,9 @@ fn keys(rng: &mut Rng, shape: &Shape) -> World {
     let days = rng.within(&shape.days);
     let numbers = |rng: &mut Rng, count: usize, first: u64, last: u64| {
         let mut numbers = rising(rng, count, first, last);
+        if let (0, Some(lowest)) = (first, numbers.first_mut()) {
+            *lowest = or_zero(rng, *lowest);
+        }
         if !shape.rising {
             rng.shuffle(&mut numbers);
         }
@@ -98,8 +102,9 @@ fn keys(rng: &mut Rng, shape: &Shape) -> World {
     .map(|range| rng.within(range));
     let services = numbers(rng, services, 0, 99_999_999);
     World {
-        first_day: first_day(rng, days),
+        first_day: first_day(rng, days, shape.at_borders),
         days,
+        at_borders: shape.at_borders,
         companies: numbers(rng, companies, 1, 999),
         countries: codes(rng, countries, 4),
         modes: codes(rng, modes, 4),
@@ -111,9 +116,22 @@ fn keys(rng: &mut Rng, shape: &Shape) -> World {
     }
 }
 
+/// The number, or 0 in its place: a key like any other, and easily mistaken for
+/// none. It is given so often that every place that names or holds it does.
+fn or_zero(rng: &mut Rng, number: u64) -> u64 {
+    if rng.percent(35) {
+        return 0;
+    }
+    number
+}
+
+/// So many days after the last day of validity zones still have a period.
+pub const DAYS_AFTER: i64 = 4;
+
 /// Mostly of our time, sometimes at either end of the calendar.
-fn first_day(rng: &mut Rng, days: usize) -> i64 {
-    let latest = calendar::LAST + 1 - days as i64;
+fn first_day(rng: &mut Rng, days: usize, at_borders: bool) -> i64 {
+    let after = if at_borders { 0 } else { DAYS_AFTER };
+    let latest = calendar::LAST + 1 - days as i64 - after;
     match rng.below(10) {
         0 => 0,
         1 => latest,
@@ -184,14 +202,38 @@ fn write_zones(rng: &mut Rng, world: &World, file: &mut Lines) {
     }
 }
 
-/// One or more periods that share no day, with and without gaps, from about
-/// the first to about the last day of validity.
 fn periods(rng: &mut Rng, world: &World) -> Vec<(i64, i64)> {
-    let mut first = (world.first_day - rng.below(20) as i64).max(0);
+    let from = (world.first_day - rng.below(20) as i64).max(0);
+    match world.at_borders {
+        true => periods_with_gaps(rng, world, from),
+        false => periods_without_gaps(rng, world, from),
+    }
+}
+
+/// One or more periods, each from the day after the one before, that hold all
+/// days of validity and those that services reach after the last.
+fn periods_without_gaps(rng: &mut Rng, world: &World, from: i64) -> Vec<(i64, i64)> {
+    let reached = world.first_day + world.days as i64 - 1 + DAYS_AFTER;
+    let to = (reached + [0, 0, 1, 200][rng.below(4)]).min(calendar::LAST);
+    let inner = (from..to).filter(|_| rng.below((to - from) as usize) < 2).take(4);
+    let ends: Vec<i64> = inner.chain([to]).collect();
+    let starts = std::iter::once(from).chain(ends.iter().map(|end| end + 1));
+    starts.zip(ends.iter().copied()).collect()
+}
+
+/// One or more periods that share no day, with and without days between them,
+/// up to the last day of validity, or some days before or after it.
+fn periods_with_gaps(rng: &mut Rng, world: &World, from: i64) -> Vec<(i64, i64)> {
+    let last_day = world.first_day + world.days as i64 - 1;
+    let mut first = from;
     let mut periods = Vec::new();
     loop {
-        let length = if rng.percent(40) { 2 * world.days + 20 } else { 1 + rng.below(world.days) };
-        let last = (first + length as i64).min(calendar::LAST);
+        let last = match rng.below(10) {
+            0..=2 => first + 2 * world.days as i64 + 20,
+            3..=5 => last_day.max(first),
+            _ => first + rng.below(world.days) as i64,
+        };
+        let last = last.min(calendar::LAST);
         periods.push((first, last));
         let gap = if rng.percent(60) { 0 } else { 1 + rng.below(5) as i64 };
         first = last + 1 + gap;
@@ -204,7 +246,11 @@ fn periods(rng: &mut Rng, world: &World) -> Vec<(i64, i64)> {
 fn write_stations(rng: &mut Rng, world: &World, file: &mut Lines) {
     for short_name in &world.stations {
         let flag = if rng.percent(80) { 1 } else { rng.below(10) };
-        let time = if rng.percent(15) { 99 } else { rng.below(20) };
+        let time = match rng.below(100) {
+            0..=14 => 99,
+            15..=34 => 0,
+            _ => rng.below(20),
+        };
         let country = rng.pick(&world.countries);
         let zone = number(*rng.pick(&world.zones), 4);
         file.line(&[
@@ -255,7 +301,8 @@ pub fn write_block(rng: &mut Rng, world: &World, service: u64, stops: &[usize], 
     file.line(&[b"#", &number(service, 8)]);
     for (first, last) in cover(rng, stops.len()) {
         let company = number(*rng.pick(&world.companies), 3);
-        let run = number(rng.below(100_000) as u64, 5);
+        let run = 1 + rng.below(99_999) as u64;
+        let run = number(or_zero(rng, run), 5);
         let (variant, name) = (free(rng, 7), free(rng, 30));
         file.line(&[b"%", &company, b",", &run, b",", &variant, b",", &first, b",", &last, b",", &name]);
     }
@@ -302,11 +349,20 @@ fn stop(rng: &mut Rng, stop: usize, stops: usize) -> Vec<u8> {
 
 fn write_attributes(rng: &mut Rng, world: &World, stops: usize, file: &mut Lines) {
     for _ in 0..rng.below(4) {
-        let first = 1 + rng.below(stops);
-        let last = first + rng.below(stops - first + 1);
+        let (first, last) = attribute_span(rng, world, stops);
         let (first, last) = (stop(rng, first, stops), stop(rng, last, stops));
         file.line(&[b"*", &code(rng, 4), b",", &first, b",", &last, b",", &footnote(rng, world)]);
     }
+}
+
+/// From a stop to a later one; at the borders also to the same.
+fn attribute_span(rng: &mut Rng, world: &World, stops: usize) -> (usize, usize) {
+    if world.at_borders && rng.percent(40) {
+        let only = 1 + rng.below(stops);
+        return (only, only);
+    }
+    let first = 1 + rng.below(stops - 1);
+    (first, first + 1 + rng.below(stops - first))
 }
 
 /// The minutes of 99:59.
@@ -385,7 +441,11 @@ fn write_xchanges(rng: &mut Rng, shape: &Shape, world: &World, file: &mut Lines)
             let keys = xchange_keys(rng, world);
             let footnote = number(*rng.pick(&world.xfootnotes), 5);
             if taken.insert((keys.clone(), footnote.clone())) {
-                let time = if rng.percent(15) { 999 } else { rng.below(40) };
+                let time = match rng.below(100) {
+                    0..=14 => 999,
+                    15..=29 => 0,
+                    _ => rng.below(40),
+                };
                 file.line(&[b"-", &keys, b",", &number(time as u64, 3), b",", &footnote]);
             }
         }

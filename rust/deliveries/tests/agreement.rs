@@ -1,9 +1,13 @@
 //! The deliveries as the second program reads them.
 
 use std::collections::BTreeMap;
+use std::ops::RangeInclusive;
 
+use deliveries::causes::ACCEPTED;
+use deliveries::place::*;
 use deliveries::{
-    amendment, edited, limit, limits, mixed, question, sound, Case, Limit, Question, Rng, Tally, World,
+    amendment, at_borders, causes, edited, limit, limits, mixed, question, sound, Amendment, Case, Limit,
+    Question, Rng, Tally, World,
 };
 use second::questions::{Side, Verdict};
 use second::{
@@ -12,12 +16,12 @@ use second::{
 
 type Place = (u8, u8, u64, u64);
 
-fn place(refusal: Refusal) -> Place {
+fn place_of(refusal: Refusal) -> Place {
     (refusal.number, refusal.file, refusal.ordinal, refusal.line)
 }
 
 fn outcome(case: &Case) -> Result<Store, Place> {
-    load(&case.texts(), &case.rooms).map_err(place)
+    load(&case.texts(), &case.rooms).map_err(place_of)
 }
 
 /// Tables that just hold the rooms.
@@ -26,20 +30,83 @@ fn lens(rooms: &[usize; 11]) -> [usize; 11] {
     std::array::from_fn(|file| rooms[file] * widths[file])
 }
 
+/// A sound delivery, one in four at the borders.
+fn sound_of_both_sorts(seed: u64) -> (World, Case) {
+    match seed % 4 {
+        0 => at_borders(seed),
+        _ => sound(seed),
+    }
+}
+
 #[test]
 fn sound_deliveries_are_accepted() {
     for seed in 0..2_000 {
-        let (world, case) = sound(seed);
+        let (world, case) = sound_of_both_sorts(seed);
         let store = outcome(&case).unwrap_or_else(|refusal| panic!("seed {seed}: {refusal:?}"));
         let answer = store.answer();
         assert_eq!((answer.days, answer.services), (world.days as u64, world.services.len() as u64));
     }
 }
 
+/// Whether a line of the file has this letter and zeros in these columns.
+fn has_zero(case: &Case, (file, letter, columns): (usize, &[u8], RangeInclusive<usize>)) -> bool {
+    let field = columns.start() - 1..*columns.end();
+    let lines = case.files[file].split(|&byte| byte == b'\n').skip(1);
+    let is_meant = |line: &&[u8]| line.starts_with(letter) && line.len() > *columns.end();
+    lines.filter(is_meant).any(|line| line[field.clone()].iter().all(|&byte| byte == b'0'))
+}
+
+/// Where keys and times of zero are defined and named: file, letter, columns.
+const ZEROS: [(usize, &[u8], RangeInclusive<usize>); 16] = [
+    (TIMEZONE, b"#", 2..=5),
+    (STATIONS, b"", 11..=12),
+    (STATIONS, b"", 22..=25),
+    (FOOTNOTE, b"#", 2..=6),
+    (TIMETBLS, b"#", 2..=9),
+    (TIMETBLS, b"%", 6..=10),
+    (TIMETBLS, b"-", 2..=6),
+    (TIMETBLS, b"*", 15..=19),
+    (TIMETBLS, b"?", 14..=18),
+    (CHANGES, b"-", 2..=9),
+    (CHANGES, b"-", 11..=18),
+    (XFOOTNOTE, b"#", 2..=6),
+    (XCHANGES, b"-", 20..=22),
+    (XCHANGES, b"-", 24..=28),
+    (TIMEZONE, b"+", 2..=3),
+    (TIMEZONE, b"-", 2..=3),
+];
+
+#[test]
+fn zeros_are_in_every_place_of_many_deliveries() {
+    const SEEDS: u64 = 2_000;
+    for place in ZEROS {
+        let count = (0..SEEDS).filter(|&seed| has_zero(&sound(seed).1, place.clone())).count();
+        assert!(count * 12 >= SEEDS as usize, "{place:?} in {count} deliveries only");
+    }
+}
+
+#[test]
+fn ordinary_zones_reach_beyond_validity_and_attributes_go_on() {
+    let day = |date: u64| second::Day::from_written(date).expect("a loaded day");
+    for seed in 0..500 {
+        let (_, case) = sound(seed);
+        let tables = encode(&outcome(&case).unwrap(), &lens(&case.rooms));
+        let last_day = day(tables[0][3]);
+        let zones = tables[TIMEZONE].chunks(6).skip(1).take_while(|row| row[0] != 0);
+        let zones: Vec<&[u64]> = zones.collect();
+        for zone in zones.split(|row| row[0] == 35).filter(|periods| !periods.is_empty()) {
+            let latest = zone.iter().map(|row| day(row[3]).days_after(last_day)).max();
+            assert!(latest >= Some(4), "seed {seed}");
+        }
+        let attributes = tables[TIMETBLS].chunks(7).filter(|row| row[0] == 42);
+        assert!(attributes.into_iter().all(|row| row[2] < row[3]), "seed {seed}");
+    }
+}
+
 #[test]
 fn loaded_tables_are_sound() {
     for seed in 0..1_000 {
-        let (_, case) = sound(seed);
+        let (_, case) = sound_of_both_sorts(seed);
         let store = outcome(&case).unwrap();
         let tables = encode(&store, &lens(&case.rooms));
         assert!(open(&tables).is_ok_and(|shown| shown == store), "seed {seed}");
@@ -65,6 +132,25 @@ fn limits_are_met_and_passed() {
             _ => None,
         };
         assert_eq!(refusal, expected, "{limit_is:?}");
+    }
+}
+
+/// Causes of refusals: what is refused, and where, is known from how the
+/// delivery was made.
+#[test]
+fn every_cause_is_refused_at_its_place() {
+    for cause in causes() {
+        let made = (0..200).filter_map(|seed| Some((seed, cause.case(seed)?))).take(6);
+        let mut count = 0;
+        for (seed, (case, place)) in made {
+            let expected = match cause.number {
+                ACCEPTED => None,
+                number => Some((number, cause.file as u8 + 1, place.ordinal, place.line)),
+            };
+            assert_eq!(outcome(&case).err(), expected, "{cause}, seed {seed}");
+            count += 1;
+        }
+        assert_eq!(count, 6, "{cause}: too few deliveries have a place for it");
     }
 }
 
@@ -105,40 +191,56 @@ fn mixed_deliveries_meet_every_refusal() {
     }
 }
 
-/// Applies the amendment and compares with a load of the edited text; answers
-/// the refusal's number, 0 if there was none.
+/// Test 11 as a search in the block's text.
+fn is_one_block(amendment: &Amendment) -> bool {
+    let opening = format!("#{:08}\r\n", amendment.service);
+    let begins_a_line = |letter: u8| amendment.block.windows(3).any(|bytes| bytes == [b'\r', b'\n', letter]);
+    opening.len() == 11
+        && amendment.block.starts_with(opening.as_bytes())
+        && amendment.block.ends_with(b"\r\n")
+        && !begins_a_line(b'#')
+        && !begins_a_line(b'@')
+}
+
+/// What an amendment must come to: 11, then 12, then what a load of the edited
+/// text comes to.
+fn expected(case: &Case, amendment: &Amendment) -> Result<(Store, Case), Place> {
+    if !is_one_block(amendment) {
+        return Err((11, 0, 0, 0));
+    }
+    let files = edited(&case.files, amendment).ok_or((12, 0, 0, 0))?;
+    let edited = Case { files, rooms: case.rooms };
+    outcome(&edited).map(|store| (store, edited))
+}
+
+/// Applies the amendment and compares with what it must come to; answers the
+/// refusal's number, 0 if there was none.
 fn amend_both_ways(store: &mut Store, case: &mut Case, world: &World, rng: &mut Rng) -> u8 {
     let amendment = amendment(rng, world);
     let lens = lens(&case.rooms);
     let before = encode(store, &lens);
-    let amended = amend(store, amendment.service, &amendment.block).map_err(place);
-    let edited = edited(&case.files, &amendment);
-    match amended {
-        Err((12, ..)) => assert!(edited.is_none()),
-        Err((11, file, ordinal, line)) => assert_eq!((file, ordinal, line), (0, 0, 0)),
+    let amended = amend(store, amendment.service, &amendment.block).map_err(place_of);
+    match expected(case, &amendment) {
         Err(refusal) => {
-            let reloaded = Case { files: edited.expect("a held service"), rooms: case.rooms };
-            assert_eq!(outcome(&reloaded).err(), Some(refusal));
+            assert_eq!(amended, Err(refusal));
+            assert_eq!(encode(store, &lens), before);
+            refusal.0
         }
-        Ok(answer) => {
-            case.files = edited.expect("a held service");
-            let reloaded = outcome(case).expect("an edited delivery");
-            assert_eq!(answer, reloaded.answer());
+        Ok((reloaded, edited)) => {
+            assert_eq!(amended, Ok(reloaded.answer()));
             assert_eq!(encode(store, &lens), encode(&reloaded, &lens));
             assert!(*store == reloaded);
+            *case = edited;
+            0
         }
     }
-    if amended.is_err() {
-        assert_eq!(encode(store, &lens), before);
-    }
-    amended.err().map_or(0, |(number, ..)| number)
 }
 
 #[test]
 fn amendments_are_as_loads_of_the_edited_text() {
     let mut numbers: BTreeMap<u8, usize> = BTreeMap::new();
     for seed in 0..1_500 {
-        let (world, mut case) = sound(seed);
+        let (world, mut case) = sound_of_both_sorts(seed);
         let mut store = outcome(&case).unwrap();
         let mut rng = Rng::new(seed);
         // One delivery is amended several times in a row, so that amendments
@@ -186,7 +288,7 @@ fn answered(store: &Store, case: &Case, question: Question) -> String {
 fn questions_meet_every_answer() {
     let mut answers: BTreeMap<String, usize> = BTreeMap::new();
     for seed in 0..2_000 {
-        let (world, case) = sound(seed);
+        let (world, case) = sound_of_both_sorts(seed);
         let store = outcome(&case).unwrap();
         let mut rng = Rng::new(seed);
         for _ in 0..30 {
