@@ -1,7 +1,7 @@
 //! Links the archive of the proved crates, which `rt staticlib exports` writes:
 //! into this program on x86-64, elsewhere into one for the kit's emulator. Where
 //! `PROVED_NATIVE` is set, what `tools/native-archive` made of it for another
-//! machine is linked into this program, for timing.
+//! machine is linked into this program.
 
 use std::path::{Path, PathBuf};
 use std::process::Command;
@@ -37,6 +37,14 @@ fn link(archive: &Path) {
     let folder = archive.parent().expect("the archive has a folder");
     println!("cargo:rustc-link-search=native={}", folder.display());
     println!("cargo:rustc-link-lib=static=exports");
+    name_servant("", "");
+}
+
+/// Tells the crate where the emulator and its program are; the crate is compiled
+/// for both ways, also where there are none.
+fn name_servant(emulator: &str, servant: &str) {
+    println!("cargo:rustc-env=PROVED_EMULATOR={emulator}");
+    println!("cargo:rustc-env=PROVED_SERVANT={servant}");
 }
 
 fn build_servant(archive: &Path, tools: &Path) {
@@ -46,8 +54,8 @@ fn build_servant(archive: &Path, tools: &Path) {
         ["--target=x86_64-unknown-linux-gnu", "-O2", "-ffreestanding", "-fno-stack-protector", "-c"];
     run(Command::new(tools.join("clang")).args(compiling).arg("src/servant.c").arg("-o").arg(&object));
     run(Command::new(tools.join("ld.lld")).arg("-static").arg("-o").arg(&servant).arg(&object).arg(archive));
-    println!("cargo:rustc-env=PROVED_EMULATOR={}", tools.join("qemu-x86_64").display());
-    println!("cargo:rustc-env=PROVED_SERVANT={}", servant.display());
+    let emulator = tools.join("qemu-x86_64");
+    name_servant(&emulator.display().to_string(), &servant.display().to_string());
 }
 
 /// The folder of the Rattle kit, of whose guide `rt doc` tells the path.

@@ -26,8 +26,11 @@ impl Comparison {
         self.differences
     }
 
-    pub fn folder(&self) -> String {
-        self.folder.display().to_string()
+    /// What is wrong, if the two programs differ.
+    pub fn complaint(&self) -> Option<String> {
+        let (count, folder) = (self.differences, self.folder.display());
+        (count > 0)
+            .then(|| format!("The two programs differ on {count} deliveries; the first are in {folder}."))
     }
 
     /// Hands the delivery to both programs and compares all they answer and
@@ -62,22 +65,28 @@ fn explained(lengths: &Lengths, proved: &Outcome, second: &Outcome) -> String {
     lines.join("\n") + "\n"
 }
 
-/// An answer as the check program of document 01 shows it.
-fn shown(answer: Answer) -> String {
-    match answer {
-        Answer::Accepted { days, services } => format!("accepted {days} {services}"),
-        Answer::Refused { number, file, ordinal, line } => {
+/// An answer as the check program of document 01 shows it, and in brackets what
+/// should be zero and is not.
+pub fn shown(answer: Answer) -> String {
+    let Answer { number, file, ordinal, line, days, services } = answer;
+    let (said, silent) = match answer.is_accepted() {
+        true => (format!("accepted {days} {services}"), vec![file, ordinal, line]),
+        false => {
             let name = (file as usize).checked_sub(1).and_then(|place| NAMES.get(place)).unwrap_or(&"?");
-            format!("refused {number} {name} {ordinal} {line}")
+            (format!("refused {number} {name} {ordinal} {line}"), vec![days, services])
         }
+    };
+    match silent.iter().all(|&word| word == 0) {
+        true => said,
+        false => format!("{said} {silent:?}"),
     }
 }
 
 /// Counts the answer.
 pub fn count(tally: &mut Tally, answer: Answer) {
-    match answer {
-        Answer::Accepted { .. } => tally.accept(),
+    match answer.is_accepted() {
+        true => tally.accept(),
         // Numbers of refusals and files are far below 256.
-        Answer::Refused { number, file, .. } => tally.refuse(number as u8, file as u8),
+        false => tally.refuse(answer.number as u8, answer.file as u8),
     }
 }

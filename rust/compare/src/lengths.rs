@@ -74,5 +74,5 @@ fn compare_one(comparison: &mut Comparison, name: &str, case: &Case, files: File
 
 /// The refusal with this number of a file as a whole.
 fn of_whole_file(number: u64, file: usize) -> Answer {
-    Answer::Refused { number, file: file as u64 + 1, ordinal: 0, line: 0 }
+    Answer::refused(number, file as u64 + 1, 0, 0)
 }

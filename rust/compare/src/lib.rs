@@ -33,11 +33,11 @@ pub fn by_second(files: Files, lengths: &Lengths) -> Outcome {
     match second::load(&files, &rooms_of(lengths)) {
         Ok(store) => {
             let second::Answer { days, services } = store.answer();
-            Outcome { answer: Answer::Accepted { days, services }, tables: encode(&store, lengths) }
+            Outcome { answer: Answer::accepted(days, services), tables: encode(&store, lengths) }
         }
         Err(second::Refusal { number, file, ordinal, line }) => {
-            let (number, file) = (u64::from(number), u64::from(file));
-            Outcome { answer: Answer::Refused { number, file, ordinal, line }, tables: zeroes(lengths) }
+            let answer = Answer::refused(u64::from(number), u64::from(file), ordinal, line);
+            Outcome { answer, tables: zeroes(lengths) }
         }
     }
 }

@@ -1,30 +1,41 @@
 //! Deliveries from the generator: sound, damaged, at the limits, and large.
 
 use std::io;
+use std::ops::Range;
 
 use compare::{lengths_of, with_spare_words};
 use deliveries::{large, limit, limits, mixed, Case, Rng, Tally};
 
 use crate::comparison::{count, Comparison};
 
-/// How many deliveries of every sort.
-const MIXED: u64 = 24_000;
 /// How many at each limit.
 const AT_EACH_LIMIT: u64 = 10;
-/// Services of a larger delivery.
-const SERVICES: usize = 300;
+/// Services of the larger deliveries.
+const SERVICES: [usize; 2] = [300, 20_000];
 
-pub fn compare_all(comparison: &mut Comparison, tally: &mut Tally) -> io::Result<()> {
-    for seed in 0..MIXED {
+/// Deliveries of every sort.
+pub fn compare_mixed(comparison: &mut Comparison, tally: &mut Tally, seeds: Range<u64>) -> io::Result<()> {
+    for seed in seeds {
         compare_one(comparison, tally, &format!("mixed-{seed}"), seed, &mixed(seed))?;
     }
+    Ok(())
+}
+
+pub fn compare_limits(comparison: &mut Comparison, tally: &mut Tally) -> io::Result<()> {
     for at in limits() {
         for seed in 0..AT_EACH_LIMIT {
             compare_one(comparison, tally, &format!("{at:?}-{seed}"), seed, &limit(seed, at))?;
         }
     }
-    for (order, rising) in [("rising", true), ("shuffled", false)] {
-        compare_one(comparison, tally, &format!("large-{order}"), 1, &large(1, SERVICES, rising).1)?;
+    Ok(())
+}
+
+pub fn compare_large(comparison: &mut Comparison, tally: &mut Tally) -> io::Result<()> {
+    for services in SERVICES {
+        for (order, rising) in [("rising", true), ("shuffled", false)] {
+            let (_, case) = large(1, services, rising);
+            compare_one(comparison, tally, &format!("large-{services}-{order}"), 1, &case)?;
+        }
     }
     Ok(())
 }

@@ -2,8 +2,10 @@
 
 use crate::causes::causes;
 use crate::damage::{damage, lines_in};
+use crate::place::*;
 use crate::rng::Rng;
 use crate::shape::Shape;
+use crate::text::{join, split};
 use crate::world::{self, World};
 use crate::FILES;
 
@@ -73,6 +75,8 @@ pub fn large(seed: u64, services: usize, rising: bool) -> (World, Case) {
 #[derive(Clone, Copy, Debug, PartialEq, Eq)]
 pub enum Limit {
     Stops(usize),
+    /// So many stops, and a platform record after each.
+    Platforms(usize),
     Modes(usize),
     Days(usize),
     /// Rooms that are just enough.
@@ -88,6 +92,7 @@ pub fn limits() -> Vec<Limit> {
         Stops(2),
         Stops(998),
         Stops(999),
+        Platforms(998),
         Modes(64),
         Modes(65),
         Days(1),
@@ -104,7 +109,7 @@ pub fn limit(seed: u64, limit: Limit) -> Case {
     let mut rng = Rng::new(seed);
     let mut shape = Shape::small(&mut rng);
     match limit {
-        Limit::Stops(count) => {
+        Limit::Stops(count) | Limit::Platforms(count) => {
             shape.services = 1..=2;
             shape.stops = count..=count;
         }
@@ -117,6 +122,9 @@ pub fn limit(seed: u64, limit: Limit) -> Case {
         }
     }
     let (_, mut case) = shaped(&mut rng, &shape);
+    if let Limit::Platforms(_) = limit {
+        add_platforms(&mut case);
+    }
     if let Limit::RoomsExact | Limit::RoomShort(_) = limit {
         case.rooms = case.files.each_ref().map(|file| lines_in(file));
     }
@@ -124,6 +132,23 @@ pub fn limit(seed: u64, limit: Limit) -> Case {
         case.rooms[file] -= 1;
     }
     case
+}
+
+/// Gives every stop that has none a platform record.
+fn add_platforms(case: &mut Case) {
+    let footnote = split(&case.files[FOOTNOTE])[1][1..].to_vec();
+    let platform = [&b"?     ,     ,"[..], &footnote].concat();
+    let lines = split(&case.files[TIMETBLS]);
+    let mut all = Vec::new();
+    for (at, line) in lines.iter().enumerate() {
+        all.push(line.clone());
+        let is_stop = matches!(line[0], b'>' | b'.' | b'+' | b'<');
+        if is_stop && !lines.get(at + 1).is_some_and(|next| next.starts_with(b"?")) {
+            all.push(platform.clone());
+        }
+    }
+    case.files[TIMETBLS] = join(&all);
+    case.rooms[TIMETBLS] = all.len();
 }
 
 /// Any of these: sound, at the borders, at a limit, with one cause or damaged.

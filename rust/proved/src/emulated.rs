@@ -3,7 +3,8 @@
 //! Both sides speak in 64-bit words, lowest byte first. Asked: the lengths of
 //! the eleven files in bytes, which of them are not sent since they are large
 //! and hold zeros alone, the lengths of the eleven tables in words, what the
-//! tables hold, then the other files. Answered: six words, then the tables.
+//! six words of the answer and the tables hold, then the other files. Answered:
+//! the six words, then the tables.
 
 use std::io::{self, BufWriter, Read, Write};
 use std::process::{Child, ChildStdin, ChildStdout, Command, Stdio};
@@ -25,9 +26,9 @@ struct Servant {
     _process: Child,
 }
 
-pub fn call(files: Files, tables: Tables) -> Words {
+pub fn call(files: Files, tables: Tables, answer: &mut Words) {
     let mut servant = SERVANT.lock().unwrap_or_else(PoisonError::into_inner);
-    let loaded = started(&mut servant).and_then(|servant| servant.load(files, tables));
+    let loaded = started(&mut servant).and_then(|servant| servant.load(files, tables, answer));
     loaded.unwrap_or_else(|error| panic!("The emulated load does not answer: {error}."))
 }
 
@@ -56,11 +57,12 @@ impl Servant {
         Ok(Servant { questions: BufWriter::with_capacity(GATHERED, stdin), answers, _process: process })
     }
 
-    fn load(&mut self, files: Files, tables: Tables) -> io::Result<Words> {
+    fn load(&mut self, files: Files, tables: Tables, answer: &mut Words) -> io::Result<()> {
         let blank = files.map(is_large_and_blank);
         self.send(&files.map(|file| file.len() as u64))?;
         self.send(&blank.map(u64::from))?;
         self.send(&tables.each_ref().map(|table| table.len() as u64))?;
+        self.send(answer)?;
         for table in &tables {
             self.send(table)?;
         }
@@ -69,12 +71,11 @@ impl Servant {
         }
         self.questions.flush()?;
 
-        let mut answer = Words::default();
-        self.receive(&mut answer)?;
+        self.receive(answer)?;
         for table in tables {
             self.receive(table)?;
         }
-        Ok(answer)
+        Ok(())
     }
 
     fn send(&mut self, words: &[u64]) -> io::Result<()> {

@@ -6,12 +6,14 @@
 //!
 //! The archive of the proved crates is for x86-64. On any other machine the
 //! load runs in a process of its own under the kit's emulator: the answers are
-//! the same, and times say nothing. For timing, `tools/native-archive` makes an
-//! archive for the machine itself, which is linked where `PROVED_NATIVE` is set.
+//! the same, and times say nothing. `tools/native-archive` makes an archive for
+//! the machine itself, which is linked where `PROVED_NATIVE` is set.
 
-#[cfg(not(linked))]
+// Both are compiled everywhere, so that neither can go wrong unseen on a machine
+// that takes the other.
+#[cfg_attr(linked, allow(dead_code))]
 mod emulated;
-#[cfg(linked)]
+#[cfg_attr(not(linked), allow(dead_code))]
 mod linked;
 
 #[cfg(not(linked))]
@@ -32,28 +34,43 @@ type Tables<'a> = [&'a mut [u64]; FILES];
 /// and line, the days and the services.
 type Words = [u64; 6];
 
-/// What a load answers: days and services, or the refusal's number and place.
-/// Files are numbered from 1, in reading order.
+/// What a load answers, all that its contract fixes: an accepted one has no
+/// refusal and no place, a refused one no days and no services. Files are
+/// numbered from 1, in reading order.
 #[derive(Clone, Copy, Debug, PartialEq, Eq)]
-pub enum Answer {
-    Accepted { days: u64, services: u64 },
-    Refused { number: u64, file: u64, ordinal: u64, line: u64 },
+pub struct Answer {
+    pub number: u64,
+    pub file: u64,
+    pub ordinal: u64,
+    pub line: u64,
+    pub days: u64,
+    pub services: u64,
 }
 
 impl Answer {
-    /// Refusals are numbered from 1.
-    fn of(words: Words) -> Answer {
-        match words {
-            [0, _, _, _, days, services] => Answer::Accepted { days, services },
-            [number, file, ordinal, line, _, _] => Answer::Refused { number, file, ordinal, line },
-        }
+    pub fn accepted(days: u64, services: u64) -> Answer {
+        Answer { number: 0, file: 0, ordinal: 0, line: 0, days, services }
+    }
+
+    pub fn refused(number: u64, file: u64, ordinal: u64, line: u64) -> Answer {
+        Answer { number, file, ordinal, line, days: 0, services: 0 }
+    }
+
+    pub fn is_accepted(&self) -> bool {
+        self.number == 0
     }
 }
+
+/// What no load answers in any place: a word that is left as it was shows.
+const UNANSWERED: u64 = u64::MAX;
 
 /// Loads a delivery into eleven tables. Files and tables stand in reading
 /// order; an absent file is empty. A refused load leaves every table zero.
 /// Linked into this program it needs some 1.2 MB of the thread's stack, as
 /// reckoned from its arrays.
 pub fn load(files: [&[u8]; FILES], tables: [&mut [u64]; FILES]) -> Answer {
-    Answer::of(call(files, tables))
+    let mut words: Words = [UNANSWERED; 6];
+    call(files, tables, &mut words);
+    let [number, file, ordinal, line, days, services] = words;
+    Answer { number, file, ordinal, line, days, services }
 }

@@ -2,12 +2,11 @@
 
 use crate::{Files, Tables, Words};
 
-pub fn call(files: Files, tables: Tables) -> Words {
+pub fn call(files: Files, tables: Tables, answer: &mut Words) {
     let [delivery, company, country, trnsmode, timezone, stations, footnote, timetbls, changes, xfootnote, xchanges] =
         files;
     let [t_delivery, t_company, t_country, t_trnsmode, t_timezone, t_stations, t_footnote, t_timetbls, t_changes, t_xfootnote, t_xchanges] =
         tables;
-    let mut answer = Words::default();
     // SAFETY: each pointer comes with the length of the slice that it was taken
     // from, the slices outlive the call, and what is written is borrowed by
     // `tables` and `answer` alone.
@@ -57,10 +56,9 @@ pub fn call(files: Files, tables: Tables) -> Words {
             t_xfootnote.len(),
             t_xchanges.as_mut_ptr(),
             t_xchanges.len(),
-            &mut answer,
+            answer,
         );
     }
-    answer
 }
 
 extern "C" {

@@ -117,6 +117,7 @@ static void load_one(void)
     take(n, sizeof n);
     take(blank, sizeof blank);
     take(w, sizeof w);
+    take(answer, sizeof answer);
     for (int k = 0; k < FILES; k++) {
         words += w[k];
         bytes += blank[k] ? 0 : n[k];

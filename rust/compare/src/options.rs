@@ -1,0 +1,39 @@
+//! What the program is asked for.
+
+use std::ops::Range;
+use std::path::PathBuf;
+use std::time::{SystemTime, UNIX_EPOCH};
+
+pub struct Options {
+    /// Deliveries of these seeds and nothing else; else everything.
+    pub seeds: Option<Range<u64>>,
+    /// Where differing deliveries are written.
+    pub folder: PathBuf,
+}
+
+pub const USAGE: &str = "usage: compare [--seed S --count N] [FOLDER]";
+
+pub fn asked(arguments: &[String]) -> Option<Options> {
+    let arguments: Vec<&str> = arguments.iter().map(String::as_str).collect();
+    let (seeds, rest) = match arguments[..] {
+        ["--seed", first, "--count", count, ref rest @ ..] => {
+            let first: u64 = first.parse().ok()?;
+            (Some(first..first.checked_add(count.parse().ok()?)?), rest)
+        }
+        ref rest => (None, rest),
+    };
+    let folder = match *rest {
+        [] => "target/differences",
+        [folder] if !folder.starts_with('-') => folder,
+        _ => return None,
+    };
+    Some(Options { seeds, folder: folder.into() })
+}
+
+/// Seeds that no other day has.
+pub fn seeds_of_today(count: u64) -> Range<u64> {
+    const SECONDS_IN_DAY: u64 = 86_400;
+    let since = SystemTime::now().duration_since(UNIX_EPOCH).map_or(0, |since| since.as_secs());
+    let first = since / SECONDS_IN_DAY * 1_000_000;
+    first..first + count
+}
