@@ -193,37 +193,6 @@ fn loaded_tables_are_sound() {
 }
 
 #[test]
-fn every_word_counts_for_soundness() {
-    // Words that may change alone without breaking a rule.
-    let free = |file: File, row: usize, word: usize| {
-        matches!(
-            (file, row, word),
-            (Company, 1.., 2)
-                | (Country, 1.., 2)
-                | (Stations, 1.., 1 | 3 | 5)
-                | (Footnote | XFootnote, 1.., 1)
-                | (TimeTbls, 1.., 1..)
-                | (Changes | XChanges, 1.., 1..)
-                | (TimeZone, 1.., 0..=3)
-        )
-    };
-    let widths = [6, 6, 6, 6, 6, 6, 14, 7, 6, 14, 7];
-    let sound = tables();
-    for file in File::ALL {
-        for place in 0..LENS[file.index()] {
-            let width = widths[file.index()];
-            if free(file, place / width, place % width) {
-                continue;
-            }
-            let mut tables = sound.clone();
-            tables[file.index()][place] ^= 1;
-            let number = open(&tables).err().map(|refusal| refusal.number);
-            assert_eq!(number, Some(16), "{file:?} {place}");
-        }
-    }
-}
-
-#[test]
 fn unsound_tables() {
     let word = |file: File, width: usize, row: usize, word: usize, value: u64| {
         let mut tables = tables();
