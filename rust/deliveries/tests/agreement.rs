@@ -1,41 +1,22 @@
 //! The deliveries as the second program reads them.
 
+mod common;
+
 use std::collections::BTreeMap;
 use std::ops::RangeInclusive;
 
+use common::{is_one_block, outcome, place_of, sound_of_both_sorts, Place};
 use deliveries::causes::ACCEPTED;
 use deliveries::place::*;
 use deliveries::{
-    amendment, at_borders, causes, edited, limit, limits, mixed, question, sound, Amendment, Case, Limit,
-    Question, Rng, Tally, World,
+    amendment, causes, edited, limit, limits, mixed, sound, Amendment, Case, Limit, Rng, Tally, World,
 };
-use second::questions::{Side, Verdict};
-use second::{
-    amend, change, encode, lines_now, load, name, open, rooms_of, running_day, stop_time, Refusal, Store,
-};
-
-type Place = (u8, u8, u64, u64);
-
-fn place_of(refusal: Refusal) -> Place {
-    (refusal.number, refusal.file, refusal.ordinal, refusal.line)
-}
-
-fn outcome(case: &Case) -> Result<Store, Place> {
-    load(&case.texts(), &case.rooms).map_err(place_of)
-}
+use second::{amend, encode, open, rooms_of, Store};
 
 /// Tables that just hold the rooms.
 fn lens(rooms: &[usize; 11]) -> [usize; 11] {
     let widths = rooms_of(&[14 * 7 * 6; 11]).map(|room| 14 * 7 * 6 / room);
     std::array::from_fn(|file| rooms[file] * widths[file])
-}
-
-/// A sound delivery, one in four at the borders.
-fn sound_of_both_sorts(seed: u64) -> (World, Case) {
-    match seed % 4 {
-        0 => at_borders(seed),
-        _ => sound(seed),
-    }
 }
 
 #[test]
@@ -191,21 +172,10 @@ fn mixed_deliveries_meet_every_refusal() {
     }
 }
 
-/// Test 11 as a search in the block's text.
-fn is_one_block(amendment: &Amendment) -> bool {
-    let opening = format!("#{:08}\r\n", amendment.service);
-    let begins_a_line = |letter: u8| amendment.block.windows(3).any(|bytes| bytes == [b'\r', b'\n', letter]);
-    opening.len() == 11
-        && amendment.block.starts_with(opening.as_bytes())
-        && amendment.block.ends_with(b"\r\n")
-        && !begins_a_line(b'#')
-        && !begins_a_line(b'@')
-}
-
 /// What an amendment must come to: 11, then 12, then what a load of the edited
 /// text comes to.
 fn expected(case: &Case, amendment: &Amendment) -> Result<(Store, Case), Place> {
-    if !is_one_block(amendment) {
+    if !is_one_block(amendment.service, &amendment.block) {
         return Err((11, 0, 0, 0));
     }
     let files = edited(&case.files, amendment).ok_or((12, 0, 0, 0))?;
@@ -253,77 +223,6 @@ fn amendments_are_as_loads_of_the_edited_text() {
     println!("amendments by refusal, 0 for accepted: {numbers:?}");
     let met: Vec<u8> = numbers.into_keys().collect();
     assert_eq!(met, [0, 2, 4, 5, 7, 9, 10, 11, 12]);
-}
-
-/// The answer in a few words: a refusal's number, or what kind of answer.
-fn answered(store: &Store, case: &Case, question: Question) -> String {
-    let side =
-        |side: deliveries::questions::Side| Side { service: side.service, stop: side.stop, date: side.date };
-    let answer = match question {
-        Question::RunningDay { service, leg, date } => {
-            running_day(store, service, leg, date).map(|runs| format!("running day {runs}"))
-        }
-        Question::StopTime { service, stop, date } => {
-            stop_time(store, service, stop, date).map(|_| "stop time".into())
-        }
-        Question::Change { from, to } => {
-            change(store, side(from), side(to)).map(|answer| match answer.verdict {
-                Verdict::No(reason) => format!("no {reason:?}"),
-                verdict => format!("{verdict:?} by {:?}", answer.source.expect("a source")),
-            })
-        }
-        Question::Name { short_name } => name(&case.files[5], short_name).map(|part| {
-            assert_eq!(part.len(), 30);
-            "name".into()
-        }),
-        Question::LinesNow { service, block } => lines_now(&case.files[7], &block, service).map(|part| {
-            assert!(part.starts_with(format!("#{service:08}\r\n").as_bytes()));
-            "lines now".into()
-        }),
-    };
-    answer.unwrap_or_else(|refusal| format!("refused {}", refusal.number))
-}
-
-#[test]
-fn questions_meet_every_answer() {
-    let mut answers: BTreeMap<String, usize> = BTreeMap::new();
-    for seed in 0..2_000 {
-        let (world, case) = sound_of_both_sorts(seed);
-        let store = outcome(&case).unwrap();
-        let mut rng = Rng::new(seed);
-        for _ in 0..30 {
-            let asked = question(&mut rng, &world);
-            *answers.entry(answered(&store, &case, asked)).or_default() += 1;
-        }
-    }
-    println!("{answers:#?}");
-    let expected = [
-        "Unsettled by Stations",
-        "Unsettled by XChanges",
-        "Yes by Changes",
-        "Yes by Stations",
-        "Yes by XChanges",
-        "lines now",
-        "name",
-        "no FromDoesNotRun",
-        "no GapTooShort",
-        "no NoChangesHere",
-        "no NobodyAlights",
-        "no NobodyBoards",
-        "no PairImpossible",
-        "no SameServiceAndDate",
-        "no StationsDiffer",
-        "no ToDoesNotRun",
-        "refused 12",
-        "refused 13",
-        "refused 14",
-        "refused 15",
-        "refused 17",
-        "running day false",
-        "running day true",
-        "stop time",
-    ];
-    assert_eq!(answers.into_keys().collect::<Vec<_>>(), expected);
 }
 
 #[test]

@@ -1,0 +1,101 @@
+//! Questions on made-up deliveries: the second program's answers beside ones
+//! reckoned from the texts.
+
+mod common;
+mod reckoned;
+
+use std::collections::BTreeMap;
+
+use common::{outcome, sound_of_both_sorts};
+use deliveries::place::{STATIONS, TIMETBLS};
+use deliveries::{question, Case, Question, Rng};
+use reckoned::Desk;
+use second::questions::{Side, Verdict};
+use second::{change, lines_now, name, running_day, stop_time, Refusal, Store};
+
+/// A refusal of a question has a number and no place.
+fn number(refusal: Refusal) -> u8 {
+    assert_eq!((refusal.file, refusal.ordinal, refusal.line), (0, 0, 0));
+    refusal.number
+}
+
+/// Asks both ways, and tells the answer in a few words.
+fn ask_both_ways(store: &Store, case: &Case, desk: &Desk, question: Question) -> String {
+    let side =
+        |side: deliveries::questions::Side| Side { service: side.service, stop: side.stop, date: side.date };
+    let answer: Result<String, u8> = match question {
+        Question::RunningDay { service, leg, date } => {
+            let answer = running_day(store, service, leg, date).map_err(number);
+            assert_eq!(answer, desk.running_day(service, leg, date));
+            answer.map(|runs| format!("running day {runs}"))
+        }
+        Question::StopTime { service, stop, date } => {
+            let answer = stop_time(store, service, stop, date).map_err(number);
+            assert_eq!(answer, desk.stop_time(service, stop, date));
+            answer.map(|_| "stop time".into())
+        }
+        Question::Change { from, to } => {
+            let (from, to) = (side(from), side(to));
+            let answer = change(store, from, to).map_err(number);
+            assert_eq!(answer, desk.change(from, to), "from {from:?} to {to:?}");
+            answer.map(|answer| match answer.verdict {
+                Verdict::No(reason) => format!("no {reason:?}"),
+                verdict => format!("{verdict:?} by {:?}", answer.source.expect("a source")),
+            })
+        }
+        Question::Name { short_name } => {
+            let answer = name(&case.files[STATIONS], short_name).map_err(number);
+            assert_eq!(answer, desk.name(short_name));
+            answer.map(|_| "name".into())
+        }
+        Question::LinesNow { service, block } => {
+            let answer = lines_now(&case.files[TIMETBLS], &block, service).map_err(number);
+            assert_eq!(answer.map(<[u8]>::to_vec), desk.lines_now(service, &block));
+            answer.map(|_| "lines now".into())
+        }
+    };
+    answer.unwrap_or_else(|number| format!("refused {number}"))
+}
+
+#[test]
+fn questions_meet_every_answer() {
+    let mut answers: BTreeMap<String, usize> = BTreeMap::new();
+    for seed in 0..2_000 {
+        let (world, case) = sound_of_both_sorts(seed);
+        let store = outcome(&case).unwrap();
+        let desk = Desk::new(&case);
+        let mut rng = Rng::new(seed);
+        for _ in 0..30 {
+            let asked = question(&mut rng, &world);
+            *answers.entry(ask_both_ways(&store, &case, &desk, asked)).or_default() += 1;
+        }
+    }
+    println!("{answers:#?}");
+    let expected = [
+        "Unsettled by Stations",
+        "Unsettled by XChanges",
+        "Yes by Changes",
+        "Yes by Stations",
+        "Yes by XChanges",
+        "lines now",
+        "name",
+        "no FromDoesNotRun",
+        "no GapTooShort",
+        "no NoChangesHere",
+        "no NobodyAlights",
+        "no NobodyBoards",
+        "no PairImpossible",
+        "no SameServiceAndDate",
+        "no StationsDiffer",
+        "no ToDoesNotRun",
+        "refused 12",
+        "refused 13",
+        "refused 14",
+        "refused 15",
+        "refused 17",
+        "running day false",
+        "running day true",
+        "stop time",
+    ];
+    assert_eq!(answers.into_keys().collect::<Vec<_>>(), expected);
+}
