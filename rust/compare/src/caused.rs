@@ -15,7 +15,7 @@ const OFTEN: usize = 20;
 /// So many seeds are tried for a cause; few deliveries have no place for it.
 const SEEDS: u64 = 400;
 
-/// How often each cause was met, by refusal and record.
+/// How often each cause was met, by refusal, file and record.
 #[derive(Default)]
 pub struct Floors(BTreeMap<(u8, usize, String), Vec<(&'static Cause, usize)>>);
 
@@ -23,21 +23,32 @@ pub struct Floors(BTreeMap<(u8, usize, String), Vec<(&'static Cause, usize)>>);
 pub fn compare_all(comparison: &mut Comparison, floors: &mut Floors) -> io::Result<Vec<String>> {
     let mut complaints = Vec::new();
     for cause in causes() {
-        let mut met = 0;
-        for (seed, (case, place)) in (0..SEEDS).filter_map(|seed| Some((seed, cause.case(seed)?))).take(OFTEN)
-        {
-            let name = format!("{cause}-{seed}").replace(|letter: char| !letter.is_ascii_alphanumeric(), "-");
-            let lengths = with_spare_words(&mut Rng::new(seed), lengths_of(&case.rooms));
-            let answer = comparison.compare(&name, case.texts(), lengths)?;
-            match is_as_caused(cause, place, answer) {
-                true => met += 1,
-                false => complaints.push(format!("{cause}, seed {seed}, is answered: {}.", shown(answer))),
-            }
-        }
+        let met = compare_cause(comparison, cause, &mut complaints)?;
         floors.0.entry((cause.number, cause.file, cause.record())).or_default().push((cause, met));
     }
     complaints.extend(floors.too_low());
     Ok(complaints)
+}
+
+/// Compares deliveries with this cause; answers how often they were answered as
+/// the cause says.
+fn compare_cause(
+    comparison: &mut Comparison,
+    cause: &Cause,
+    complaints: &mut Vec<String>,
+) -> io::Result<usize> {
+    let mut met = 0;
+    let made = (0..SEEDS).filter_map(|seed| Some((seed, cause.case(seed)?)));
+    for (seed, (case, place)) in made.take(OFTEN) {
+        let name = format!("{cause}-{seed}").replace(|letter: char| !letter.is_ascii_alphanumeric(), "-");
+        let lengths = with_spare_words(&mut Rng::new(seed), lengths_of(&case.rooms));
+        let answer = comparison.compare(&name, case.texts(), lengths)?;
+        match is_as_caused(cause, place, answer) {
+            true => met += 1,
+            false => complaints.push(format!("{cause}, seed {seed}, is answered: {}.", shown(answer))),
+        }
+    }
+    Ok(met)
 }
 
 fn is_as_caused(cause: &Cause, Place { ordinal, line }: Place, answer: Answer) -> bool {

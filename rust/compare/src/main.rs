@@ -67,28 +67,31 @@ fn compare_seeds(comparison: &mut Comparison, seeds: Range<u64>) -> io::Result<V
     Ok(odd(&tally))
 }
 
-/// Runs all comparisons; answers what is wrong, in sentences.
+/// Runs all comparisons, those first that tell the most of a difference;
+/// answers what is wrong, in sentences.
 fn compare_all(comparison: &mut Comparison) -> io::Result<Vec<String>> {
-    let mut tally = Tally::default();
-    made::compare_mixed(comparison, &mut tally, FIXED)?;
-    let mut complaints: Vec<String> = too_few_accepted(&tally).into_iter().collect();
-    made::compare_limits(comparison, &mut tally)?;
-    made::compare_large(comparison, &mut tally)?;
-    complaints.extend(lengths::compare_all(comparison, &mut tally)?);
-    complaints.extend(rare(&tally));
-    println!("{tally}");
-
     let mut floors = Floors::default();
-    complaints.extend(caused::compare_all(comparison, &mut floors)?);
+    let mut complaints = caused::compare_all(comparison, &mut floors)?;
     floors.print();
 
-    let replaced = bytes::compare_all(comparison)?;
-    println!("Bytes replaced: {} deliveries, {} accepted.", replaced.total(), replaced.accepted());
+    let mut tally = Tally::default();
+    complaints.extend(lengths::compare_all(comparison, &mut tally)?);
+    made::compare_limits(comparison, &mut tally)?;
+    made::compare_large(comparison, &mut tally)?;
+    let mut fixed = Tally::default();
+    made::compare_mixed(comparison, &mut fixed, FIXED)?;
+    complaints.extend(too_few_accepted(&fixed));
+    tally.add(&fixed);
+    complaints.extend(rare(&tally));
 
     let today = seeds_of_today(OF_TODAY);
     println!("Seeds of today, to be run again by: compare --seed {} --count {OF_TODAY}", today.start);
     made::compare_mixed(comparison, &mut tally, today)?;
     complaints.extend(odd(&tally));
+    println!("{tally}");
+
+    let replaced = bytes::compare_all(comparison)?;
+    println!("Bytes replaced: {} deliveries, {} accepted.", replaced.total(), replaced.accepted());
     Ok(complaints)
 }
 

@@ -41,6 +41,14 @@ impl Tally {
         *self.refused.entry((number, file)).or_default() += 1;
     }
 
+    /// Counts what another tally has counted.
+    pub fn add(&mut self, other: &Tally) {
+        self.accepted += other.accepted;
+        for (&refusal, count) in &other.refused {
+            *self.refused.entry(refusal).or_default() += count;
+        }
+    }
+
     pub fn accepted(&self) -> usize {
         self.accepted
     }

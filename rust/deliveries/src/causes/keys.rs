@@ -1,7 +1,5 @@
 //! Refusals 8 and 9: keys that come again, and keys that are named and not held.
 
-use std::collections::HashSet;
-
 use crate::calendar;
 use crate::cases::Case;
 use crate::fields::{get, put, record, Class, Field, Record, FIRST_LINE};
@@ -9,7 +7,7 @@ use crate::place::*;
 use crate::rng::Rng;
 use crate::text::{number, split};
 
-use super::{any, named, other_byte, places_of, Cause, Lines, Place};
+use super::{any, edit_lines, named, other_byte, places_of, Cause, Lines, Place};
 
 pub fn causes() -> Vec<Cause> {
     let mut causes: Vec<Cause> =
@@ -26,7 +24,7 @@ pub fn causes() -> Vec<Cause> {
 const HASH: Option<u8> = Some(b'#');
 
 /// What must differ from row to row, or from group to group.
-const UNIQUE: [(usize, Option<u8>, &str); 14] = [
+pub(super) const UNIQUE: [(usize, Option<u8>, &str); 14] = [
     (COMPANY, None, "number"),
     (COMPANY, None, "code"),
     (COMPANY, None, "name"),
@@ -52,12 +50,17 @@ fn twice(file: usize, letter: Option<u8>, name: &'static str) -> Cause {
     let kind = record(file, letter);
     let field = kind.field(name);
     Cause::in_lines(8, file, named(&kind), format!("{name} twice"), move |rng, lines| {
-        let places = places_of(&kind, lines);
-        let later = 1 + rng.below(places.len().checked_sub(1).filter(|&others| others > 0)?);
-        let value = get(&lines[places[rng.below(later)]], field);
-        put(&mut lines[places[later]], field, &value);
-        Some(places[later])
+        copy_earlier(rng, lines, &kind, field)
     })
+}
+
+/// Copies a field of some record to a later one; answers the later one's place.
+pub(super) fn copy_earlier(rng: &mut Rng, lines: &mut Lines, kind: &Record, field: Field) -> Option<usize> {
+    let places = places_of(kind, lines);
+    let later = 1 + rng.below(places.len().checked_sub(1).filter(|&others| others > 0)?);
+    let value = get(&lines[places[rng.below(later)]], field);
+    put(&mut lines[places[later]], field, &value);
+    Some(places[later])
 }
 
 fn blank_twice(file: usize, name: &'static str) -> Cause {
@@ -162,19 +165,19 @@ pub(super) fn latest_day(periods: &[(i64, i64)]) -> i64 {
 }
 
 /// The file, letter and field that hold a key.
-type Key = (usize, Option<u8>, &'static str);
+pub(super) type Key = (usize, Option<u8>, &'static str);
 
 const COMPANY_KEY: Key = UNIQUE[0];
 const COUNTRY_KEY: Key = UNIQUE[3];
 const MODE_KEY: Key = UNIQUE[5];
-const ZONE_KEY: Key = UNIQUE[7];
+pub(super) const ZONE_KEY: Key = UNIQUE[7];
 const STATION_KEY: Key = UNIQUE[8];
 const FOOTNOTE_KEY: Key = UNIQUE[9];
 const SERVICE_KEY: Key = UNIQUE[10];
 const XFOOTNOTE_KEY: Key = UNIQUE[12];
 
 /// Where keys are named, first lines apart: file, letter, field, and the key.
-const NAMED: [(usize, Option<u8>, &str, Key); 20] = [
+pub(super) const NAMED: [(usize, Option<u8>, &str, Key); 20] = [
     (STATIONS, None, "country", COUNTRY_KEY),
     (STATIONS, None, "zone", ZONE_KEY),
     (TIMETBLS, Some(b'%'), "company", COMPANY_KEY),
@@ -197,30 +200,49 @@ const NAMED: [(usize, Option<u8>, &str, Key); 20] = [
     (XCHANGES, Some(b'-'), "to mode", MODE_KEY),
 ];
 
-fn held(case: &Case, (file, letter, name): Key) -> HashSet<Vec<u8>> {
+/// The keys that a delivery holds, in order.
+fn held(case: &Case, (file, letter, name): Key) -> Vec<Vec<u8>> {
     let kind = record(file, letter);
     let lines = split(&case.files[file]);
-    places_of(&kind, &lines).into_iter().map(|at| get(&lines[at], kind.field(name))).collect()
+    let mut keys: Vec<Vec<u8>> =
+        places_of(&kind, &lines).into_iter().map(|at| get(&lines[at], kind.field(name))).collect();
+    keys.sort();
+    keys
 }
 
-/// Puts an unheld key into a field of some record.
-fn put_unheld(
+/// Edits some record of a kind; answers where.
+pub(super) fn edit_somewhere(
     rng: &mut Rng,
     case: &mut Case,
-    (kind, field): (Record, Field),
-    key: Key,
-    unheld: fn(&mut Rng, &[Vec<u8>], Field) -> Option<Vec<u8>>,
+    kind: &Record,
+    edit: impl FnOnce(&mut Rng, &mut Vec<u8>),
 ) -> Option<Place> {
-    let keys = held(case, key);
-    let mut sorted: Vec<Vec<u8>> = keys.iter().cloned().collect();
-    sorted.sort();
-    let value = unheld(rng, &sorted, field)?;
-    let is_free = !keys.contains(&value) && !is_blank_or_star(&value);
-    let mut lines = split(&case.files[kind.file]);
-    let at = any(rng, places_of(&kind, &lines)).filter(|_| is_free)?;
-    put(&mut lines[at], field, &value);
-    case.files[kind.file] = crate::text::join(&lines);
-    Some(Place::of(kind.file, &lines, at))
+    edit_lines(case, kind.file, |lines| {
+        let at = any(rng, places_of(kind, lines))?;
+        edit(rng, &mut lines[at]);
+        Some(at)
+    })
+}
+
+/// A key for a field, made from those that are held; by chance held itself.
+pub(super) type Unheld = fn(&mut Rng, &[Vec<u8>], Field) -> Vec<u8>;
+
+/// One byte of a held key changed, wherever it stands.
+pub(super) fn one_byte_off(rng: &mut Rng, held: &[Vec<u8>], field: Field) -> Vec<u8> {
+    let mut value = rng.pick(held).clone();
+    let column = rng.below(field.width());
+    let bytes: &[u8] = if field.class == Class::Code { b"abz ~\xff" } else { b"0123456789" };
+    value[column] = other_byte(rng, value[column], bytes);
+    value
+}
+
+fn zero(_: &mut Rng, _: &[Vec<u8>], field: Field) -> Vec<u8> {
+    vec![b'0'; field.width()]
+}
+
+/// A held key one column to the right, its last byte lost.
+fn moved(rng: &mut Rng, held: &[Vec<u8>], field: Field) -> Vec<u8> {
+    [b" ", &rng.pick(held)[..field.width() - 1]].concat()
 }
 
 /// A blank code is 5, and a star alone may be a wildcard.
@@ -228,31 +250,26 @@ fn is_blank_or_star(value: &[u8]) -> bool {
     matches!(value[0], b' ' | b'*') && value[1..].iter().all(|&byte| byte == b' ')
 }
 
-/// One byte of a held key changed, wherever it stands.
-fn one_byte_off(rng: &mut Rng, held: &[Vec<u8>], field: Field) -> Option<Vec<u8>> {
-    let mut value = rng.pick(held).clone();
-    let column = rng.below(field.width());
-    let bytes: &[u8] = if field.class == Class::Code { b"abz ~\xff" } else { b"0123456789" };
-    value[column] = other_byte(rng, value[column], bytes);
-    Some(value)
-}
-
-fn zero(_: &mut Rng, _: &[Vec<u8>], field: Field) -> Option<Vec<u8>> {
-    Some(vec![b'0'; field.width()])
-}
-
-/// Each byte of the field but the last as in a held key, moved by one.
-fn moved(rng: &mut Rng, held: &[Vec<u8>], field: Field) -> Option<Vec<u8>> {
-    let key = rng.pick(held);
-    Some([b" ", &key[..field.width() - 1]].concat())
+/// A key that is not held and breaks no other rule.
+pub(super) fn free_key(
+    rng: &mut Rng,
+    case: &Case,
+    key: Key,
+    field: Field,
+    unheld: Unheld,
+) -> Option<Vec<u8>> {
+    let keys = held(case, key);
+    let value = unheld(rng, &keys, field);
+    (!keys.contains(&value) && !is_blank_or_star(&value)).then_some(value)
 }
 
 fn unmet(file: usize, letter: Option<u8>, name: &'static str, key: Key) -> [Cause; 2] {
     let kind = record(file, letter);
     let field = kind.field(name);
-    let cause = |what: &str, unheld: fn(&mut Rng, &[Vec<u8>], Field) -> Option<Vec<u8>>| {
+    let cause = |what: &str, unheld: Unheld| {
         Cause::new(9, file, named(&kind), format!("{name} {what}"), move |rng, case| {
-            put_unheld(rng, case, (kind, field), key, unheld)
+            let value = free_key(rng, case, key, field, unheld)?;
+            edit_somewhere(rng, case, &kind, |_, line| put(line, field, &value))
         })
     };
     let second = match field.class {
@@ -266,17 +283,12 @@ fn unmet(file: usize, letter: Option<u8>, name: &'static str, key: Key) -> [Caus
 fn footnotes_of_the_other_file() -> Vec<Cause> {
     let cause = |file: usize, letter: u8, own: Key, other: Key| {
         let kind = record(file, Some(letter));
-        let field = kind.field("footnote");
         Cause::new(9, file, named(&kind), "footnote of the other file", move |rng, case| {
             let own = held(case, own);
-            let mut others: Vec<Vec<u8>> =
-                held(case, other).into_iter().filter(|key| !own.contains(key)).collect();
-            others.sort();
-            let mut lines = split(&case.files[file]);
-            let at = any(rng, places_of(&kind, &lines)).filter(|_| !others.is_empty())?;
-            put(&mut lines[at], field, rng.field(&others));
-            case.files[file] = crate::text::join(&lines);
-            Some(Place::of(file, &lines, at))
+            let others = held(case, other).into_iter().filter(|key| !own.contains(key));
+            let others: Vec<Vec<u8>> = others.collect();
+            let value = (!others.is_empty()).then(|| rng.field(&others))?;
+            edit_somewhere(rng, case, &kind, |_, line| put(line, kind.field("footnote"), value))
         })
     };
     let mut causes: Vec<Cause> =
@@ -288,15 +300,14 @@ fn footnotes_of_the_other_file() -> Vec<Cause> {
 /// DELIVERY's company, in all first lines alike.
 fn deliverys_company() -> [Cause; 2] {
     let field = FIRST_LINE[0];
-    let cause = |what: &str, unheld: fn(&mut Rng, &[Vec<u8>], Field) -> Option<Vec<u8>>| {
+    let cause = |what: &str, unheld: Unheld| {
         Cause::new(9, DELIVERY, "first line", format!("company {what}"), move |rng, case| {
-            let mut keys: Vec<Vec<u8>> = held(case, COMPANY_KEY).into_iter().collect();
-            keys.sort();
-            let value = unheld(rng, &keys, field).filter(|value| !keys.contains(value))?;
+            let keys = held(case, COMPANY_KEY);
+            let value = unheld(rng, &keys, field);
             for file in &mut case.files {
                 put(file, field, &value);
             }
-            Some(Place::FIRST_LINE)
+            (!keys.contains(&value)).then_some(Place::FIRST_LINE)
         })
     };
     [cause("not held", one_byte_off), cause("0", zero)]

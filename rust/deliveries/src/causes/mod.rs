@@ -3,6 +3,7 @@
 //! otherwise, so what a load must answer is known without loading it.
 
 mod accepted;
+mod both;
 mod files;
 mod keys;
 mod layout;
@@ -95,10 +96,7 @@ impl Cause {
         edit: impl Fn(&mut Rng, &mut Lines) -> Option<usize> + Send + Sync + 'static,
     ) -> Cause {
         Cause::new(number, file, record, what, move |rng, case| {
-            let mut lines = split(&case.files[file]);
-            let at = edit(rng, &mut lines)?;
-            case.files[file] = join(&lines);
-            Some(Place::of(file, &lines, at))
+            edit_lines(case, file, |lines| edit(rng, lines))
         })
     }
 
@@ -160,10 +158,20 @@ pub fn causes() -> &'static [Cause] {
         causes.extend(order::causes());
         causes.extend(keys::causes());
         causes.extend(legs::causes());
+        causes.extend(both::causes());
         causes.sort_by_key(|cause| cause.number);
         causes
     });
     &CAUSES
+}
+
+/// Edits the lines of a file; the edit answers the place, from 0, of the line
+/// that is meant.
+fn edit_lines(case: &mut Case, file: usize, edit: impl FnOnce(&mut Lines) -> Option<usize>) -> Option<Place> {
+    let mut lines = split(&case.files[file]);
+    let at = edit(&mut lines)?;
+    case.files[file] = join(&lines);
+    Some(Place::of(file, &lines, at))
 }
 
 /// The places, from 0, of the records of a kind.

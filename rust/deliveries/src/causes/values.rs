@@ -42,24 +42,26 @@ pub fn causes() -> Vec<Cause> {
 }
 
 fn of_fields(record: Record) -> impl Iterator<Item = Cause> {
-    record.fields.iter().filter_map(move |&field| match field.class {
-        Class::Text => None,
-        Class::Code => Some(Cause::in_record(5, record, format!("{} blank", field.name), move |_, line| {
-            put(line, field, &vec![b' '; field.width()]);
+    let values = record.fields.iter().filter(|field| field.class != Class::Text);
+    values.map(move |&field| {
+        Cause::in_record(5, record, spoiled(field), move |rng, line| {
+            spoil(rng, line, field);
             Some(())
-        })),
-        _ => Some(Cause::in_record(5, record, not_a_number(field), move |rng, line| {
-            spoil_digit(rng, line, field);
-            Some(())
-        })),
+        })
     })
 }
 
-fn not_a_number(field: Field) -> String {
-    format!("{} not a number", field.name)
+/// What a field is after [`spoil`].
+pub(super) fn spoiled(field: Field) -> String {
+    let fault = if field.class == Class::Code { "blank" } else { "not a number" };
+    format!("{} {fault}", field.name)
 }
 
-fn spoil_digit(rng: &mut Rng, line: &mut [u8], field: Field) {
+/// Makes a code blank, and anything else no number.
+pub(super) fn spoil(rng: &mut Rng, line: &mut [u8], field: Field) {
+    if field.class == Class::Code {
+        return put(line, field, &vec![b' '; field.width()]);
+    }
     let column = field.first - 1 + rng.below(field.width());
     line[column] = other_byte(rng, line[column], NO_DIGITS);
 }
@@ -79,8 +81,8 @@ fn delivery() -> Vec<Cause> {
     let numbers = FIRST_LINE.iter().filter(|field| field.class != Class::Text);
     let mut causes: Vec<Cause> = numbers
         .map(|&field| {
-            in_delivery(not_a_number(field), move |rng, line| {
-                spoil_digit(rng, line, field);
+            in_delivery(spoiled(field), move |rng, line| {
+                spoil(rng, line, field);
                 Some(())
             })
         })
