@@ -95,12 +95,33 @@ fn delivery() -> Vec<Cause> {
             })
         }));
     }
+    causes.extend(NO_SPANS.map(no_span));
     let [first, last] = [FIRST_LINE[1], FIRST_LINE[2]];
     causes.push(in_delivery("first day after the last".into(), move |_, line| {
         put_day_after(line, last, 1, first)
     }));
     causes.push(in_delivery("801 days".into(), move |_, line| put_day_after(line, first, 800, last)));
     causes
+}
+
+/// First and last days that would be a right span if both were days.
+const NO_SPANS: [[&str; 2]; 8] = [
+    ["29021900", "05031900"],
+    ["29022015", "05032015"],
+    ["31042015", "05052015"],
+    ["00012015", "05012015"],
+    ["31121599", "05011600"],
+    ["25021900", "29021900"],
+    ["25022015", "29022015"],
+    ["25042015", "31042015"],
+];
+
+fn no_span([first, last]: [&'static str; 2]) -> Cause {
+    in_delivery(format!("{first} to {last}"), move |_, line| {
+        put(line, FIRST_LINE[1], first.as_bytes());
+        put(line, FIRST_LINE[2], last.as_bytes());
+        Some(())
+    })
 }
 
 /// Puts into a field the day so many days after that of another.
