@@ -8,4 +8,6 @@ use Rattle.iff_desk.specs.Answers.{answerNumber, answerPlace, answerDays, answe
 
 -- six numbers, the paper's own: the refusal, 0 where there is none; its file, ordinal and line; the days and the services
 abbrev pub answerWords : Answer → List ℕ
-answerWords a = answerNumber a ∷ fileAt (answerPlace a) ∷ ordinal (answerPlace a) ∷ lineAt (answerPlace a) ∷ answerDays a ∷ answerServices a ∷ []
+answerWords a =
+    let place = answerPlace a in
+    answerNumber a ∷ fileAt place ∷ ordinal place ∷ lineAt place ∷ answerDays a ∷ answerServices a ∷ []

@@ -1,8 +1,10 @@
 // A verdict as an answer, and an answer as the paper's numbers and values, for callers to whom an enum cannot be handed.
 use iff::Answer;
 use iff::File;
+use iff::GroupFile;
 use iff::Place;
 use iff::Reason;
+use iff::RowFile;
 use iff::Verdict;
 ghost use mathlib.Core.Path.{_≡_};
 ghost use Rattle.iff.specs.Files.{fileNumber, fileAt};
@@ -55,16 +57,20 @@ pub fn number_of_file(file: File) -> u64
 {
     match file {
         File::Delivery => 1,
-        File::Company => 2,
-        File::Country => 3,
-        File::Trnsmode => 4,
-        File::Timezone => 5,
-        File::Stations => 6,
-        File::Footnote => 7,
+        File::Rows(rows) => match rows {
+            RowFile::Company => 2,
+            RowFile::Country => 3,
+            RowFile::Trnsmode => 4,
+            RowFile::Stations => 6,
+        },
+        File::Groups(groups) => match groups {
+            GroupFile::Timezone => 5,
+            GroupFile::Footnote => 7,
+            GroupFile::Changes => 9,
+            GroupFile::Xfootnote => 10,
+            GroupFile::Xchanges => 11,
+        },
         File::Timetbls => 8,
-        File::Changes => 9,
-        File::Xfootnote => 10,
-        File::Xchanges => 11,
     }
 }
 

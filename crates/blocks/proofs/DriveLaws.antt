@@ -8,6 +8,7 @@ use lib.ListN.{length}
 use Rattle.iff.specs.Lists.{kept, all}
 use Rattle.iff.specs.Refusals.{verdictAt, scan, after}
 use Rattle.iff.specs.Lines.{Line, letter}
+use Rattle.iff.specs.declared.Form.{Form}
 use Rattle.iff.specs.declared.File.the-variants.{Timetbls}
 use Rattle.iff.specs.declared.Place.the-variants.{At}
 use Rattle.iff.specs.declared.Test.{Test}
@@ -19,10 +20,11 @@ use Rattle.iff_rules.specs.Meaning.{mostStops}
 use Rattle.iff_rules.specs.Unique.{freshKey}
 use Rattle.iff_rules.specs.Legs.{one}
 use Rattle.iff_rules.specs.Load.{blockTest, blockMoves, blockNext}
-use Rattle.blocks.specs.Lines.{blockTestWith, legible, stepOf, blockStep}
+use Rattle.records.specs.Layouts.{legible}
+use Rattle.blocks.specs.Lines.{blockTestWith, stepOf, blockStep}
 use Rattle.blocks.specs.Drive.{onward, drive, drivenAt}
-use Rattle.blocks.specs.declared.Step.{Step}
-use Rattle.blocks.specs.declared.Step.the-variants.{Go, No}
+use Rattle.blocks.specs.declared.LineStep.{LineStep}
+use Rattle.blocks.specs.declared.LineStep.the-variants.{Leads, Refused}
 use Rattle.blocks.specs.declared.Driven.the-variants.{Through}
 use Rattle.blocks.proofs.TestLaws.{SameKeys, isStart, test-first, test-later, LedOn, passed}
 
@@ -37,11 +39,11 @@ unfolding drive
 drive-cons c fresh st done l ls = refl
 
 -- a step that leads on
-pub led-on : (c : Context) (fresh : Bool) (st : InBlock) (l : Line) (to : InBlock) → blockStep c fresh st l ≡ Go to → LedOn st l to
+pub led-on : (c : Context) (fresh : Bool) (st : InBlock) (l : Line) (to : InBlock) → blockStep c fresh st l ≡ Leads to → LedOn (c .form) st l to
 unfolding blockStep
 led-on c fresh st l to e = go (blockTestWith c fresh st l) refl e
   where
-    go : (t : Test) → blockTestWith c fresh st l ≡ t → stepOf t (blockNext st l) ≡ Go to → LedOn st l to
+    go : (t : Test) → blockTestWith c fresh st l ≡ t → stepOf t (blockNext st l) ≡ Leads to → LedOn (c .form) st l to
     go (Fails w) q f = absurd (let z : _≡_ {A = ℕ} 0 1 = cc in omega arith)
     go Passes q f = let s : blockNext st l ≡ to = cc in rw s at (passed c fresh st l q)
 
@@ -67,17 +69,18 @@ module _ (c k : Context) (same : SameKeys c k) (seen : List ℕ) (fresh : Bool) 
       one-more st done l ls (test-later c k same seen fresh st l h) (says-later ls (blockNext st l) (suc done))
 
   -- from a block's first line on
-  pub drive-says : (st : InBlock) (l : Line) (ls : List Line) → fresh ≡ freshKey Timetbls seen (rowOf (c .days) Timetbls l) → Says st 0 (l ∷ ls)
+  pub drive-says : (st : InBlock) (l : Line) (ls : List Line) → fresh ≡ freshKey Timetbls seen (rowOf (c .form) Timetbls l)
+      → Says st 0 (l ∷ ls)
   drive-says st l ls e =
       one-more st 0 l ls (test-first c k same seen fresh st l e) (says-later ls (blockNext st l) 1)
 
 -- WHAT LINES THAT ARE THROUGH LEAVE
-pub record CameThrough (st : InBlock) (done : ℕ) (ls : List Line) (end : InBlock) (m : ℕ) : Type 0 where
+pub record CameThrough (form : Form) (st : InBlock) (done : ℕ) (ls : List Line) (end : InBlock) (m : ℕ) : Type 0 where
   pub ended : after blockNext st ls ≡ end
   pub counted : m ≡ done + length ls
   pub stops : end .stops ≡ st .stops + length (kept (λ l. isStop (letter l)) ls)
   pub few : st .stops ≤ mostStops → end .stops ≤ mostStops
-  pub read : all legible ls ≡ true
+  pub read : all (legible form) ls ≡ true
 
 kept-more : (p : Line → Bool) (l : Line) (ls : List Line) → length (kept p (l ∷ ls)) ≡ one (p l) + length (kept p ls)
 unfolding kept
@@ -88,7 +91,7 @@ kept-more p l ls = go (p l)
     go false = omega arith
 
 pub came-through : (c : Context) (fresh : Bool) (ls : List Line) (st : InBlock) (done : ℕ) (end : InBlock) (m : ℕ)
-    → drive c fresh st done ls ≡ Through end m → CameThrough st done ls end m
+    → drive c fresh st done ls ≡ Through end m → CameThrough (c .form) st done ls end m
 unfolding drive after kept all blockMoves
 came-through c fresh [] st done end m e =
     let s : st ≡ end = cc in
@@ -97,10 +100,11 @@ came-through c fresh [] st done end m e =
     record { ended = s; counted = omega arith; stops = omega arith; few = λ h. omega arith; read = refl }
 came-through c fresh (l ∷ ls) st done end m e = go (blockStep c fresh st l) refl e (λ to f. came-through c fresh ls to (suc done) end m f)
   where
-    go : (s : Step) → blockStep c fresh st l ≡ s → onward s (suc done) (λ next. drive c fresh next (suc done) ls) ≡ Through end m
-        → ((to : InBlock) → drive c fresh to (suc done) ls ≡ Through end m → CameThrough to (suc done) ls end m) → CameThrough st done (l ∷ ls) end m
-    go (No w) q f again = absurd (let z : _≡_ {A = ℕ} 0 1 = cc in omega arith)
-    go (Go to) q f again =
+    go : (s : LineStep) → blockStep c fresh st l ≡ s → onward s (suc done) (λ next. drive c fresh next (suc done) ls) ≡ Through end m
+        → ((to : InBlock) → drive c fresh to (suc done) ls ≡ Through end m → CameThrough (c .form) to (suc done) ls end m)
+        → CameThrough (c .form) st done (l ∷ ls) end m
+    go (Refused w) q f again = absurd (let z : _≡_ {A = ℕ} 0 1 = cc in omega arith)
+    go (Leads to) q f again =
         let ih = again to f in
         let on = led-on c fresh st l to q in
         let n : to .stops ≡ st .stops + one (isStop (letter l)) = ap (λ x. x .stops) (on .is) in

@@ -1,22 +1,23 @@
 -- Laws of a reader of lines, where it stands in a block's text: what one line does to what is left. Assumes nothing.
-use Prim.Native.Nat.{ℕ, _+_, _-_, _≤_, _<_}
+use Prim.Native.Nat.{ℕ, _+_, _≤_, _<_}
 use mathlib.Core.Path.{_≡_, refl, ap, sym, _∙_}
 use mathlib.Core.List.{List, _∷_}
-use mathlib.Core.Bool.{Bool, false}
+use mathlib.Core.Bool.{Bool}
 use native.Mathlib.Omega.{arith}
 use native.Mathlib.Numerals.{add-one}
-use lib.ListN.{length, take, drop}
-use Rattle.iff.specs.Lines.{Line, lines, eolAt}
-use Rattle.iff.specs.declared.Eol.the-variants.{Ended, Unended}
+use lib.ListN.{length, drop}
+use Rattle.iff.specs.Lines.{Line, lines}
 use Rattle.iff.specs.declared.Reason.{Reason}
 use Rattle.iff.specs.declared.InBlock.{InBlock}
 use Rattle.iff_rules.specs.Rows.{Context}
 use Rattle.iff_rules.specs.Meaning.{mostStops}
-use Rattle.text.proofs.LineLaws.{whole, remainder, rest-part, after-ended, after-unended, lines-end}
+use Rattle.text.specs.declared.LineSpan.{LineSpan}
+use Rattle.text.specs.Spans.{spanLine, LineAt}
+use Rattle.text.proofs.LineLaws.{lines-end}
 use Rattle.blocks.specs.Lines.{blockStep}
 use Rattle.blocks.specs.Drive.{driveAt, turnTo, Standing, TurnsTo}
-use Rattle.blocks.specs.declared.Step.{Step}
-use Rattle.blocks.specs.declared.Step.the-variants.{Go, No}
+use Rattle.blocks.specs.declared.LineStep.{LineStep}
+use Rattle.blocks.specs.declared.LineStep.the-variants.{Leads, Refused}
 use Rattle.blocks.specs.declared.Turned.{Turned}
 use Rattle.blocks.specs.declared.Turned.the-variants.{On, Off}
 use Rattle.blocks.specs.declared.Driven.the-variants.{Through, Held}
@@ -24,13 +25,14 @@ use Rattle.blocks.proofs.DriveLaws.{drive-nil, drive-cons, led-on}
 
 -- ONE LINE
 module _ (c : Context) (fresh : Bool) (t : List ℕ) (at : ℕ) (st : InBlock) (few : st .stops ≤ mostStops) where
-  turns : (l : Line) (n : ℕ) → lines (drop at t) ≡ l ∷ lines (drop n t) → at < n → n ≤ length t → (s : Step) → s ≡ blockStep c fresh st l → TurnsTo c fresh t at st (turnTo s n)
-  turns l n h a b (No w) q =
+  turns : (l : Line) (n : ℕ) → lines (drop at t) ≡ l ∷ lines (drop n t) → at < n → n ≤ length t
+      → (s : LineStep) → s ≡ blockStep c fresh st l → TurnsTo c fresh t at st (turnTo s n)
+  turns l n h a b (Refused w) q =
       record {
         turn = λ done. rw (h, drive-cons, ← q);
         past = λ m to p. absurd (let z : _≡_ {A = ℕ} 0 1 = cc in omega arith);
       }
-  turns l n h a b (Go next) q =
+  turns l n h a b (Leads next) q =
       record {
         turn = λ done. rw (h, drive-cons, ← q);
         past =
@@ -41,18 +43,10 @@ module _ (c : Context) (fresh : Bool) (t : List ℕ) (at : ℕ) (st : InBlock) (
             record { beyond = omega arith; inside = omega arith; few = omega arith };
       }
 
-  -- a line that CR LF ends
-  pub turns-ended : at < length t → (e : ℕ) → eolAt t at ≡ Ended e → (s : Step) → s ≡ blockStep c fresh st (whole t at e) → (r : Turned) → r ≡ turnTo s (e + 2) → TurnsTo c fresh t at st r
-  turns-ended h e q s k r p =
-      let a = after-ended t at h e q in
-      rw p (turns (whole t at e) (e + 2) (a .head) (omega arith) (a .high) s k)
-
-  -- the remainder
-  pub turns-unended : at < length t → eolAt t at ≡ Unended → (s : Step) → s ≡ blockStep c fresh st (record { body = take (length t - at) (drop at t); ended = false })
-      → (r : Turned) → r ≡ turnTo s (length t) → TurnsTo c fresh t at st r
-  turns-unended h q s k r p =
-      rw p
-      (turns (remainder t at) (length t) (after-unended t at h q ∙ rw (lines-end t (length t) (omega arith))) h (omega arith) s (rw rest-part at k))
+  -- the line that stands there
+  pub turns-at : (span : LineSpan) → LineAt t at span → (s : LineStep) → s ≡ blockStep c fresh st (spanLine t at span)
+      → (r : Turned) → r ≡ turnTo s (span .next) → TurnsTo c fresh t at st r
+  turns-at span a s k r p = rw p (turns (spanLine t at span) (span .next) (a .head) (a .more) (a .high) s k)
 
 -- SOME LINES: what is left from `at` on says what was to be said from `from` on
 pub record Reading (c : Context) (fresh : Bool) (t : List ℕ) (from : ℕ) (start : InBlock) (before at : ℕ) (st : InBlock) (done : ℕ) : Type 0 where
@@ -60,10 +54,12 @@ pub record Reading (c : Context) (fresh : Bool) (t : List ℕ) (from : ℕ) (sta
   pub here : Standing t at done st
   pub left : driveAt c fresh t from start before ≡ driveAt c fresh t at st done
 
-pub starts : (c : Context) (fresh : Bool) (t : List ℕ) (from : ℕ) (start : InBlock) (before : ℕ) → Standing t from before start → Reading c fresh t from start before from start before
+pub starts : (c : Context) (fresh : Bool) (t : List ℕ) (from : ℕ) (start : InBlock) (before : ℕ) → Standing t from before start
+    → Reading c fresh t from start before from start before
 starts c fresh t from start before s = record { low = omega arith; here = s; left = refl }
 
-module _ (c : Context) (fresh : Bool) (t : List ℕ) (from : ℕ) (start : InBlock) (before at : ℕ) (st : InBlock) (done : ℕ) (r : Reading c fresh t from start before at st done) where
+module _ (c : Context) (fresh : Bool) (t : List ℕ) (from : ℕ) (start : InBlock) (before at : ℕ) (st : InBlock) (done : ℕ)
+    (r : Reading c fresh t from start before at st done) where
   pub held : (x : Turned) → TurnsTo c fresh t at st x → (w : Reason) → x ≡ Off w → Held w (done + 1) ≡ driveAt c fresh t from start before
   held x y w e = rw add-one (sym (r .left ∙ y .turn done ∙ rw e))
 

@@ -10,12 +10,15 @@ use Rattle.iff.specs.Bytes.{hash, percent, dash, ampersand, asterisk, plus, dot
 use Rattle.iff.specs.Lists.{has}
 use Rattle.iff.specs.Refusals.{firstTest, orTest, unless}
 use Rattle.iff.specs.Lines.{Line, letter, isHash}
-use Rattle.iff.specs.Columns.{recordFields, blockRecord, recordOf, fieldsOf, laid}
+use Rattle.iff.specs.Columns.{fieldsOf, laid}
 use Rattle.iff.specs.Values.{readable}
 use Rattle.iff.specs.Times.{isTime, interval}
-use Rattle.iff.specs.Tables.{Row, word, tag, padded}
-use Rattle.iff.specs.declared.Record.{Record}
-use Rattle.iff.specs.declared.File.the-variants.{Timetbls}
+use Rattle.iff.specs.Tables.{Row, tag, padded}
+use Rattle.iff.specs.Words.{named, arrival, departure, stopTimeOf}
+use Rattle.iff.specs.declared.Form.{Form}
+use Rattle.iff.specs.declared.RowFile.the-variants.{Company, Trnsmode, Stations}
+use Rattle.iff.specs.declared.GroupFile.the-variants.{Footnote}
+use Rattle.iff.specs.declared.File.the-variants.{Rows, Groups, Timetbls}
 use Rattle.iff.specs.declared.Reason.{Reason}
 use Rattle.iff.specs.declared.Reason.the-variants.{Layout, Value, Order, Duplicate, Reference}
 use Rattle.iff.specs.declared.Test.{Test}
@@ -25,15 +28,16 @@ use Rattle.iff.specs.declared.Stand.the-variants.{Start, Hash, Percent, Dash, A
 use Rattle.iff.specs.declared.Next.{Next}
 use Rattle.iff.specs.declared.Next.the-variants.{Goes, NotHere}
 use Rattle.iff.specs.declared.InBlock.{InBlock}
-use Rattle.iff_rules.specs.Order.{LineTests, lineTest, known, to, goes, isGoes, standAfter, isStop}
+use Rattle.iff_rules.specs.Order.{LineTests, lineTest, knownInBlock, to, goes, isGoes, standAfter, isStop}
 use Rattle.iff_rules.specs.Rows.{rowOf, Context}
-use Rattle.iff_rules.specs.Meaning.{mostStops, meaning, blockMeaning}
+use Rattle.iff_rules.specs.Meaning.{mostStops, blockMeaning}
 use Rattle.iff_rules.specs.Unique.{freshKey}
-use Rattle.iff_rules.specs.References.{met, metInBlock}
+use Rattle.iff_rules.specs.References.{metInBlock}
 use Rattle.iff_rules.specs.Legs.{one}
 use Rattle.iff_rules.specs.Load.{blockTest, blockMoves, blockNext}
-use Rattle.records.proofs.FileLaws.{row-tag}
-use Rattle.blocks.specs.Lines.{blockTestWith, layoutTest, recordTest, legible}
+use Rattle.records.specs.Layouts.{layoutTest, legible}
+use Rattle.records.proofs.FileLaws.{row-tag, legible-line}
+use Rattle.blocks.specs.Lines.{blockTestWith, recordTest}
 
 -- IN THE ORDER OF THE WORK
 both : (l r m f x : Bool)
@@ -49,50 +53,34 @@ both true true true true true = refl
 
 pub test-in-order : (c : Context) (fresh : Bool) (st : InBlock) (l : Line)
     → blockTestWith c fresh st l
-    ≡ orTest (unless (known Timetbls (letter l)) Layout) (orTest (unless (isGoes (goes (st .stand) (letter l))) Order) (recordTest c fresh (st .stops) l))
+    ≡ orTest (unless (knownInBlock (letter l)) Layout)
+    (orTest (unless (isGoes (goes (st .stand) (letter l))) Order) (recordTest c fresh (st .stops) l))
 unfolding blockTestWith lineTest firstTest rowOf padded
 test-in-order c fresh st l =
-    ap (λ t. orTest (unless (known Timetbls (letter l)) Layout) (orTest (unless (isGoes (goes (st .stand) (letter l))) Order) t))
-    (both (laid l (fieldsOf 0 Timetbls (letter l))) (readable (l .body) (fieldsOf 0 Timetbls (letter l))) (meaning Timetbls (st .stops) (rowOf 0 Timetbls l)) (cond (isHash l) fresh true) (met c Timetbls (rowOf 0 Timetbls l)))
+    let fields = fieldsOf (c .form) Timetbls (letter l) in
+    let row = rowOf (c .form) Timetbls l in
+    ap (λ t. orTest (unless (knownInBlock (letter l)) Layout) (orTest (unless (isGoes (goes (st .stand) (letter l))) Order) t))
+    (both (laid l fields) (readable (l .body) fields) (blockMeaning (st .stops) row) (cond (isHash l) fresh true) (metInBlock c row))
 
 -- EQUAL TO THE PAPER'S
--- no record of a block has a width that the days decide
-fields-if : (d : ℕ) (b : Bool) (p q : Record) → recordFields d p ≡ recordFields 0 p → recordFields d q ≡ recordFields 0 q → recordFields d (cond b p q) ≡ recordFields 0 (cond b p q)
-fields-if d true p q e f = e
-fields-if d false p q e f = f
-
-pub fields-any-days : (d x : ℕ) → fieldsOf d Timetbls x ≡ fieldsOf 0 Timetbls x
-unfolding fieldsOf recordOf blockRecord recordFields
-fields-any-days d x =
-    fields-if d (eqb x hash) _ _ refl
-    (fields-if d (eqb x percent) _ _ refl
-    (fields-if d (eqb x dash) _ _ refl
-    (fields-if d (eqb x ampersand) _ _ refl
-    (fields-if d (eqb x asterisk) _ _ refl
-    (fields-if d (eqb x plus) _ _ refl
-    (fields-if d (eqb x semicolon) _ _ refl
-    (fields-if d (eqb x question) _ _ refl refl)))))))
-
-pub row-any-days : (d : ℕ) (l : Line) → rowOf d Timetbls l ≡ rowOf 0 Timetbls l
-unfolding rowOf
-row-any-days d l = rw fields-any-days
-
--- two contexts with the keys that a block's lines name
+-- two contexts of one form, with the keys that a block's lines name
 pub record SameKeys (c k : Context) : Type 0 where
-  pub companies : c .companies ≡ k .companies
-  pub modes : c .modes ≡ k .modes
-  pub stations : c .stations ≡ k .stations
-  pub footnotes : c .footnotes ≡ k .footnotes
+  pub form : c .form ≡ k .form
+  pub companies : c .keys (Rows Company) ≡ k .keys (Rows Company)
+  pub modes : c .keys (Rows Trnsmode) ≡ k .keys (Rows Trnsmode)
+  pub stations : c .keys (Rows Stations) ≡ k .keys (Rows Stations)
+  pub footnotes : c .keys (Groups Footnote) ≡ k .keys (Groups Footnote)
 
-met-same : (c k : Context) → SameKeys c k → (r : Row) → met c Timetbls r ≡ met k Timetbls r
-unfolding met metInBlock
+met-same : (c k : Context) → SameKeys c k → (r : Row) → metInBlock c r ≡ metInBlock k r
+unfolding metInBlock
 met-same c k e r = rw (e .companies, e .modes, e .stations, e .footnotes)
 
 module _ (c k : Context) (same : SameKeys c k) (seen : List ℕ) (fresh : Bool) where
   -- where `fresh` says what the keys seen say
-  pub test-same : (st : InBlock) (l : Line) → cond (isHash l) fresh true ≡ freshKey Timetbls seen (rowOf 0 Timetbls l) → blockTestWith k fresh st l ≡ blockTest c seen st l
+  pub test-same : (st : InBlock) (l : Line) → cond (isHash l) fresh true ≡ freshKey Timetbls seen (rowOf (c .form) Timetbls l)
+      → blockTestWith k fresh st l ≡ blockTest c seen st l
   unfolding blockTest blockTestWith
-  test-same st l e = rw (fields-any-days (c .days), row-any-days (c .days), met-same c k same, e)
+  test-same st l e = rw (← e, met-same c k same, same .form)
 
 -- THE ORDER: no line leads back to the start, so that only a block's first line can be a `#`
 abbrev pub isStart : Stand → Bool
@@ -161,11 +149,15 @@ not-here-test s t k e f = rw (k, e, f)
 
 module _ (c k : Context) (same : SameKeys c k) (seen : List ℕ) (fresh : Bool) where
   -- a block's first line: `fresh` is what the keys seen say of it
-  pub test-first : (st : InBlock) (l : Line) → fresh ≡ freshKey Timetbls seen (rowOf (c .days) Timetbls l) → blockTestWith k fresh st l ≡ blockTest c seen st l
+  pub test-first : (st : InBlock) (l : Line) → fresh ≡ freshKey Timetbls seen (rowOf (c .form) Timetbls l)
+      → blockTestWith k fresh st l ≡ blockTest c seen st l
   unfolding freshKey rowOf padded
-  test-first st l e = test-same c k same seen fresh st l (go (isHash l) (e ∙ rw (row-any-days (c .days))))
+  test-first st l e = test-same c k same seen fresh st l (go (isHash l) e)
     where
-      go : (b : Bool) → fresh ≡ cond b (not (has (word (rowOf 0 Timetbls l) 1) seen)) true → cond b fresh true ≡ cond b (not (has (word (rowOf 0 Timetbls l) 1) seen)) true
+      isNew : Bool
+      isNew = not (has (named (rowOf (c .form) Timetbls l)) seen)
+
+      go : (b : Bool) → fresh ≡ cond b isNew true → cond b fresh true ≡ cond b isNew true
       go true q = q
       go false q = refl
 
@@ -194,36 +186,41 @@ unless-passes true w e = refl
 unless-passes false w e = absurd (let z : _≡_ {A = ℕ} 0 1 = cc in omega arith)
 
 -- one stop more is still few
-few-more : (stops : ℕ) (r : Row) → meaning Timetbls stops r ≡ true → stops ≤ mostStops → stops + one (isStop (tag r)) ≤ mostStops
-unfolding meaning blockMeaning
+few-more : (stops : ℕ) (r : Row) → blockMeaning stops r ≡ true → stops ≤ mostStops → stops + one (isStop (tag r)) ≤ mostStops
+unfolding blockMeaning
 few-more stops r e h = go (isStop (tag r)) e
   where
     and-first : (a b : Bool) → a && b ≡ true → a ≡ true
     and-first true b q = refl
     and-first false b q = q
 
-    go : (b : Bool) → cond b (ltb stops mostStops && cond (eqb (tag r) plus) (interval (word r 2) (word r 3)) (isTime (word r 2))) true ≡ true → stops + one b ≤ mostStops
+    times : Bool
+    times = cond (eqb (tag r) plus) (interval (arrival r) (departure r)) (isTime (stopTimeOf r))
+
+    go : (b : Bool) → cond b (ltb stops mostStops && times) true ≡ true → stops + one b ≤ mostStops
     go false q = omega arith
     go true q = omega (arith, ltb-true stops mostStops (and-first _ _ q))
 
 -- what is known of a line that leads on
-pub record LedOn (st : InBlock) (l : Line) (to : InBlock) : Type 0 where
+pub record LedOn (form : Form) (st : InBlock) (l : Line) (to : InBlock) : Type 0 where
   pub is : to ≡ blockNext st l
   pub left : isStart (to .stand) ≡ false
   pub few : st .stops ≤ mostStops → to .stops ≤ mostStops
-  pub read : legible l ≡ true
+  pub read : legible form l ≡ true
 
-pub passed : (c : Context) (fresh : Bool) (st : InBlock) (l : Line) → blockTestWith c fresh st l ≡ Passes → LedOn st l (blockNext st l)
-unfolding blockMoves legible
+pub passed : (c : Context) (fresh : Bool) (st : InBlock) (l : Line) → blockTestWith c fresh st l ≡ Passes → LedOn (c .form) st l (blockNext st l)
+unfolding blockMoves
 passed c fresh st l e =
-    let a = or-passes (known Timetbls (letter l)) Layout _ (sym (test-in-order c fresh st l) ∙ e) in
+    let fields = fieldsOf (c .form) Timetbls (letter l) in
+    let row = rowOf (c .form) Timetbls l in
+    let a = or-passes (knownInBlock (letter l)) Layout _ (sym (test-in-order c fresh st l) ∙ e) in
     let b = or-passes (isGoes (goes (st .stand) (letter l))) Order _ (a .1) in
-    let d = pair-passes (layoutTest l) _ (b .1) in
-    let f = or-passes (laid l (fieldsOf 0 Timetbls (letter l))) Layout _ (d .0) in
-    let g = or-passes (meaning Timetbls (st .stops) (rowOf 0 Timetbls l)) Value _ (d .1) in
+    let d = pair-passes (layoutTest l fields) _ (b .1) in
+    let f = or-passes (laid l fields) Layout _ (d .0) in
+    let g = or-passes (blockMeaning (st .stops) row) Value _ (d .1) in
     record {
       is = refl;
       left = leaves (st .stand) (letter l) (b .0);
-      few = λ h. (rw (row-tag 0 Timetbls l) at (few-more (st .stops) (rowOf 0 Timetbls l) (g .0) h));
-      read = rw (f .0, unless-passes (readable (l .body) (fieldsOf 0 Timetbls (letter l))) Value (f .1));
+      few = λ h. (rw (row-tag (c .form) Timetbls l) at (few-more (st .stops) row (g .0) h));
+      read = legible-line (c .form) l (f .0) (unless-passes (readable (l .body) fields) Value (f .1));
     }

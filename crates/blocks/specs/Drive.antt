@@ -13,16 +13,16 @@ use Rattle.iff.specs.declared.InBlock.{InBlock}
 use Rattle.iff_rules.specs.Rows.{Context}
 use Rattle.iff_rules.specs.Meaning.{mostStops}
 use Rattle.blocks.specs.Lines.{blockStep}
-use Rattle.blocks.specs.declared.Step.{Step}
-use Rattle.blocks.specs.declared.Step.the-variants.{Go, No}
+use Rattle.blocks.specs.declared.LineStep.{LineStep}
+use Rattle.blocks.specs.declared.LineStep.the-variants.{Leads, Refused}
 use Rattle.blocks.specs.declared.Turned.{Turned}
 use Rattle.blocks.specs.declared.Turned.the-variants.{On, Off}
 use Rattle.blocks.specs.declared.Driven.{Driven}
 use Rattle.blocks.specs.declared.Driven.the-variants.{Through, Held}
 
-abbrev pub onward : Step → ℕ → (InBlock → Driven) → Driven
-onward (Go st) j k = k st
-onward (No w) j k = Held w j
+abbrev pub onward : LineStep → ℕ → (InBlock → Driven) → Driven
+onward (Leads st) j k = k st
+onward (Refused w) j k = Held w j
 
 -- some lines, after `done` others: where they lead and how many lines there are then, or the first fault and its line's number
 unfoldable pub drive : Context → Bool → InBlock → ℕ → List Line → Driven
@@ -34,9 +34,9 @@ abbrev pub driveAt : Context → Bool → List ℕ → ℕ → InBlock → ℕ �
 driveAt c fresh t at st done = drive c fresh st done (lines (drop at t))
 
 -- ONE LINE OF A TEXT: where it ends the next begins, or the fault
-abbrev pub turnTo : Step → ℕ → Turned
-turnTo (Go st) n = On n st
-turnTo (No w) n = Off w
+abbrev pub turnTo : LineStep → ℕ → Turned
+turnTo (Leads st) n = On n st
+turnTo (Refused w) n = Off w
 
 abbrev pub turned : Turned → ℕ → (ℕ → InBlock → Driven) → Driven
 turned (On n st) j k = k n st

@@ -2,23 +2,26 @@
 // A load and an amendment share this check; what they write comes after it.
 ghost use mathlib.Core.Path.{_≡_};
 ghost use mathlib.Core.Bool.{true, cond};
-ghost use Prim.Native.Nat.{_+_, _-_, _≤_, _<_};
+ghost use Prim.Native.Nat.{_+_, _≤_, _<_};
 ghost use lib.Dec.{eqb};
-ghost use lib.ListN.{length, getD, take, drop};
+ghost use lib.ListN.{length, getD};
 ghost use Rattle.iff.specs.Bytes.{hash};
 ghost use Rattle.iff_rules.specs.Meaning.{mostStops};
 ghost use Rattle.iff_rules.specs.Order.{isStop};
 ghost use Rattle.iff_rules.specs.Legs.{one};
 ghost use Rattle.iff_rules.specs.Rows.{asBlock};
+ghost use Rattle.iff.specs.Tables.{rowWidth};
+ghost use Rattle.iff.specs.declared.Form.{Form};
+ghost use Rattle.iff.specs.declared.File.the-variants.{Timetbls};
 ghost use Rattle.iff_rules.specs.Load.{serviceOf};
 ghost use Rattle.blocks.specs.Lines.{keysFrom, rowTest, recordTest, blockStep};
 ghost use Rattle.blocks.specs.Drive.{driveAt, turnTo, Standing, TurnsTo};
 ghost use Rattle.blocks.specs.Whole.{LinesRead, lastTests, BlockChecked, headWord};
 
 // What one line leads to.
-pub enum Step {
-    Go(iff::InBlock),
-    No(iff::Reason),
+pub enum LineStep {
+    Leads(iff::InBlock),
+    Refused(iff::Reason),
 }
 
 // The same of the line that starts somewhere in a text, with the start of the next.
@@ -39,13 +42,13 @@ pub enum Checked {
     Broken(iff::Reason, u64),
 }
 
-// One line of a block.
+// ONE LINE OF A BLOCK
 
 // A `#` must name a new service; no other record names one.
 fn is_new(tag: u64, fresh: bool) -> bool
     ensures { λ r. ⌜ r ≡ cond (eqb tag hash) fresh true ⌝ }
 {
-    if tag == 35 {
+    if tag == iff::tags::HASH {
         return fresh;
     }
     true
@@ -63,13 +66,15 @@ fn row_test(
     footnotes: &[u64],
     places: &[u32],
 ) -> iff::Test
-    requires { ⌜ length (now row) ≡ 7 ⌝ }
-    ensures { λ r. ⌜ r ≡ rowTest (keysFrom counts (now (companies .entry)) (now (modes .entry)) (now (stations .entry)) (now (footnotes .entry))) fresh stops (now (row .entry)) ⌝ }
+    requires { ⌜ length (now row) ≡ rowWidth Timetbls ⌝ }
+    ensures { λ r. ⌜ ((form : Form) → r ≡ rowTest
+        (keysFrom form counts (now (companies .entry)) (now (modes .entry)) (now (stations .entry)) (now (footnotes .entry)))
+        fresh stops (now (row .entry))) ⌝ }
 {
-    if !meanings::row_means(iff::File::Timetbls, stops as usize, row) {
+    if !meanings::block_means(stops as usize, row) {
         return iff::Test::Fails(iff::Reason::Value);
     }
-    if !is_new(row[0], fresh) {
+    if !is_new(row[iff::words::TAG], fresh) {
         return iff::Test::Fails(iff::Reason::Duplicate);
     }
     if !references::met_in_block(row, counts, companies, modes, stations, footnotes, places) {
@@ -83,6 +88,7 @@ fn record_test(
     letter: u8,
     line: &[u8],
     ended: bool,
+    form: iff::Form,
     stops: u64,
     fresh: bool,
     counts: references::BlockCounts,
@@ -93,14 +99,15 @@ fn record_test(
     places: &[u32],
 ) -> iff::Test
     requires { ⌜ letter ≡ getD (now line) 0 0 ⌝ }
-    ensures { λ r. ⌜ r ≡ recordTest (keysFrom counts (now (companies .entry)) (now (modes .entry)) (now (stations .entry)) (now (footnotes .entry))) fresh stops (record { body = now (line .entry); ended = ended }) ⌝ }
+    ensures { λ r. ⌜ r ≡ recordTest
+        (keysFrom form counts (now (companies .entry)) (now (modes .entry)) (now (stations .entry)) (now (footnotes .entry)))
+        fresh stops (record { body = now (line .entry); ended = ended }) ⌝ }
 {
-    let kind = records::record_of(iff::File::Timetbls, letter);
-    match records::line_layout(kind, 0, line, ended) {
+    let kind = records::block_record(letter);
+    let mut row = [0u64; tables::BLOCK_WIDTH];
+    match records::read_line(kind, letter as u64, form, line, ended, &mut row) {
         iff::Test::Fails(why) => iff::Test::Fails(why),
         iff::Test::Passes => {
-            let mut row: [u64; 7] = [0; 7];
-            records::put_words(kind, letter as u64, 0, 0, line, &mut row);
             row_test(
                 &row,
                 stops,
@@ -137,6 +144,7 @@ fn after_record(to: iff::Stand, stops: u64, letter: u8) -> iff::InBlock
 fn block_line(
     line: &[u8],
     ended: bool,
+    form: iff::Form,
     st: iff::InBlock,
     fresh: bool,
     counts: references::BlockCounts,
@@ -145,22 +153,25 @@ fn block_line(
     stations: &[u64],
     footnotes: &[u64],
     places: &[u32],
-) -> Step
+) -> LineStep
     requires { ⌜ st .stops ≤ mostStops ⌝ }
-    ensures { λ r. ⌜ r ≡ blockStep (keysFrom counts (now (companies .entry)) (now (modes .entry)) (now (stations .entry)) (now (footnotes .entry))) fresh st (record { body = now (line .entry); ended = ended }) ⌝ }
+    ensures { λ r. ⌜ r ≡ blockStep
+        (keysFrom form counts (now (companies .entry)) (now (modes .entry)) (now (stations .entry)) (now (footnotes .entry)))
+        fresh st (record { body = now (line .entry); ended = ended }) ⌝ }
 {
     let letter = text::first_byte(line);
-    if !order::is_known(iff::File::Timetbls, letter) {
-        return Step::No(iff::Reason::Layout);
+    if !order::is_known_in_block(letter) {
+        return LineStep::Refused(iff::Reason::Layout);
     }
     let stand = st.stand;
     let stops = st.stops;
     match order::goes(stand, letter) {
-        iff::Next::NotHere => Step::No(iff::Reason::Order),
+        iff::Next::NotHere => LineStep::Refused(iff::Reason::Order),
         iff::Next::Goes(to) => match record_test(
             letter,
             line,
             ended,
+            form,
             stops,
             fresh,
             counts,
@@ -170,20 +181,20 @@ fn block_line(
             footnotes,
             places,
         ) {
-            iff::Test::Fails(why) => Step::No(why),
-            iff::Test::Passes => Step::Go(after_record(to, stops, letter)),
+            iff::Test::Fails(why) => LineStep::Refused(why),
+            iff::Test::Passes => LineStep::Leads(after_record(to, stops, letter)),
         },
     }
 }
 
-// The lines of a block, where they stand in its text.
+// THE LINES OF A BLOCK, where they stand in its text
 
-fn turn_to(step: Step, next: usize) -> Turned
+fn turn_to(step: LineStep, next: usize) -> Turned
     ensures { λ r. ⌜ r ≡ turnTo step next ⌝ }
 {
     match step {
-        Step::Go(st) => Turned::On(next, st),
-        Step::No(why) => Turned::Off(why),
+        LineStep::Leads(st) => Turned::On(next, st),
+        LineStep::Refused(why) => Turned::Off(why),
     }
 }
 
@@ -191,6 +202,7 @@ fn turn_to(step: Step, next: usize) -> Turned
 fn line_at(
     block: &[u8],
     at: usize,
+    form: iff::Form,
     st: iff::InBlock,
     fresh: bool,
     counts: references::BlockCounts,
@@ -201,46 +213,28 @@ fn line_at(
     places: &[u32],
 ) -> Turned
     requires { ⌜ (at < length (now block)) × (st .stops ≤ mostStops) ⌝ }
-    ensures { λ r. ⌜ TurnsTo (keysFrom counts (now (companies .entry)) (now (modes .entry)) (now (stations .entry)) (now (footnotes .entry))) fresh (now (block .entry)) at st r ⌝ }
+    ensures { λ r. ⌜ TurnsTo
+        (keysFrom form counts (now (companies .entry)) (now (modes .entry)) (now (stations .entry)) (now (footnotes .entry)))
+        fresh (now (block .entry)) at st r ⌝ }
 {
-    match text::line_end(block, at) {
-        iff::Eol::Ended(e) => {
-            let next = e + 2;
-            turn_to(
-                block_line(
-                    &block[at..e],
-                    true,
-                    st,
-                    fresh,
-                    counts,
-                    companies,
-                    modes,
-                    stations,
-                    footnotes,
-                    places,
-                ),
-                next,
-            )
-        }
-        iff::Eol::Unended => {
-            let next = block.len();
-            turn_to(
-                block_line(
-                    &block[at..],
-                    false,
-                    st,
-                    fresh,
-                    counts,
-                    companies,
-                    modes,
-                    stations,
-                    footnotes,
-                    places,
-                ),
-                next,
-            )
-        }
-    }
+    let span = text::line_at(block, at);
+    let end = span.end;
+    turn_to(
+        block_line(
+            &block[at..end],
+            span.ended,
+            form,
+            st,
+            fresh,
+            counts,
+            companies,
+            modes,
+            stations,
+            footnotes,
+            places,
+        ),
+        span.next,
+    )
 }
 
 // All lines from `from` on, before which `before` lines lead to `start`. A platform record is handed to the reader of platforms: so the two are
@@ -249,6 +243,7 @@ fn read_stops(
     block: &[u8],
     from: usize,
     before: u64,
+    form: iff::Form,
     start: iff::InBlock,
     fresh: bool,
     counts: references::BlockCounts,
@@ -259,7 +254,9 @@ fn read_stops(
     places: &[u32],
 ) -> Driven
     requires { ⌜ Standing (now block) from before start ⌝ }
-    ensures { λ r. ⌜ r ≡ driveAt (keysFrom counts (now (companies .entry)) (now (modes .entry)) (now (stations .entry)) (now (footnotes .entry))) fresh (now (block .entry)) from start before ⌝ }
+    ensures { λ r. ⌜ r ≡ driveAt
+        (keysFrom form counts (now (companies .entry)) (now (modes .entry)) (now (stations .entry)) (now (footnotes .entry)))
+        fresh (now (block .entry)) from start before ⌝ }
 {
     let mut at = from;
     let mut done = before;
@@ -271,6 +268,7 @@ fn read_stops(
                 block,
                 at,
                 done,
+                form,
                 st,
                 fresh,
                 counts,
@@ -284,6 +282,7 @@ fn read_stops(
         match line_at(
             block,
             at,
+            form,
             st,
             fresh,
             counts,
@@ -311,6 +310,7 @@ fn read_platform(
     block: &[u8],
     at: usize,
     before: u64,
+    form: iff::Form,
     st: iff::InBlock,
     fresh: bool,
     counts: references::BlockCounts,
@@ -321,12 +321,15 @@ fn read_platform(
     places: &[u32],
 ) -> Driven
     requires { ⌜ (at < length (now block)) × Standing (now block) at before st ⌝ }
-    ensures { λ r. ⌜ r ≡ driveAt (keysFrom counts (now (companies .entry)) (now (modes .entry)) (now (stations .entry)) (now (footnotes .entry))) fresh (now (block .entry)) at st before ⌝ }
+    ensures { λ r. ⌜ r ≡ driveAt
+        (keysFrom form counts (now (companies .entry)) (now (modes .entry)) (now (stations .entry)) (now (footnotes .entry)))
+        fresh (now (block .entry)) at st before ⌝ }
 {
     let number = before + 1;
     match line_at(
         block,
         at,
+        form,
         st,
         fresh,
         counts,
@@ -341,6 +344,7 @@ fn read_platform(
             block,
             next,
             number,
+            form,
             to,
             fresh,
             counts,
@@ -353,19 +357,19 @@ fn read_platform(
     }
 }
 
-// A whole block.
+// A WHOLE BLOCK
 
 // What comes after the last line: whether the block may end there, and its legs.
-fn last_tests(block: &[u8], st: iff::InBlock, lines: u64) -> Checked
-    requires { ⌜ LinesRead (now block) st lines ⌝ }
-    ensures { λ r. ⌜ r ≡ lastTests (now (block .entry)) st lines ⌝ }
+fn last_tests(block: &[u8], form: iff::Form, st: iff::InBlock, lines: u64) -> Checked
+    requires { ⌜ LinesRead form (now block) st lines ⌝ }
+    ensures { λ r. ⌜ r ≡ lastTests form (now (block .entry)) st lines ⌝ }
 {
     let stand = st.stand;
     if !order::is_finished(stand) {
         return Checked::Broken(iff::Reason::Order, lines);
     }
     let stops = st.stops;
-    if !legs::are_right(block, stops as usize) {
+    if !legs::are_right(block, form, stops) {
         return Checked::Broken(iff::Reason::Legs, 1);
     }
     Checked::Whole(lines, stops)
@@ -375,6 +379,7 @@ fn last_tests(block: &[u8], st: iff::InBlock, lines: u64) -> Checked
 // `places` is a hint where stations and footnotes stand, and may be empty.
 pub fn check_block(
     block: &[u8],
+    form: iff::Form,
     fresh: bool,
     counts: references::BlockCounts,
     companies: &[u64],
@@ -383,7 +388,8 @@ pub fn check_block(
     footnotes: &[u64],
     places: &[u32],
 ) -> Checked
-    ensures { λ r. ⌜ BlockChecked (now (block .entry)) fresh counts (now (companies .entry)) (now (modes .entry)) (now (stations .entry)) (now (footnotes .entry)) r ⌝ }
+    ensures { λ r. ⌜ BlockChecked form (now (block .entry)) fresh counts (now (companies .entry)) (now (modes .entry))
+        (now (stations .entry)) (now (footnotes .entry)) r ⌝ }
 {
     if block.len() == 0 {
         return Checked::Broken(iff::Reason::Layout, 1);
@@ -396,6 +402,7 @@ pub fn check_block(
         block,
         0,
         0,
+        form,
         start,
         fresh,
         counts,
@@ -406,44 +413,30 @@ pub fn check_block(
         places,
     ) {
         Driven::Held(why, line) => Checked::Broken(why, line),
-        Driven::Through(st, lines) => last_tests(block, st, lines),
+        Driven::Through(st, lines) => last_tests(block, form, st, lines),
     }
 }
 
-// The service that a block names.
-
-// The columns of a line after the first `from` and up to `to`, as far as the line has them.
-fn part(line: &[u8], from: usize, to: usize) -> &[u8]
-    requires { ⌜ from < to ⌝ }
-    ensures { λ r. ⌜ now r ≡ take (to - from) (drop from (now (line .entry))) ⌝ }
-{
-    if line.len() <= from {
-        return &line[0..0];
-    }
-    if line.len() < to {
-        return &line[from..];
-    }
-    &line[from..to]
-}
+// THE SERVICE THAT A BLOCK NAMES
 
 // The first word after the tag of a line's row, by the line's letter, whether or not the line may be read.
 fn head_word(line: &[u8]) -> u64
-    ensures { λ r. ⌜ r ≡ headWord (now (line .entry)) ⌝ }
+    ensures { λ r. ⌜ ((form : Form) → r ≡ headWord form (now (line .entry))) ⌝ }
 {
     match text::first_byte(line) {
-        b'#' => text::number(part(line, 1, 9)),
-        b'%' => text::number(part(line, 1, 4)),
-        b'-' => text::number(part(line, 1, 6)),
-        b'&' => text::code(part(line, 1, 5)),
-        b'*' => text::code(part(line, 1, 5)),
-        b'?' => text::number(part(line, 13, 18)),
-        _ => text::code(part(line, 1, 8)),
+        b'#' => text::number(text::columns_of(line, 1, 9)),
+        b'%' => text::number(text::columns_of(line, 1, 4)),
+        b'-' => text::number(text::columns_of(line, 1, 6)),
+        b'&' => text::code(text::columns_of(line, 1, 5)),
+        b'*' => text::code(text::columns_of(line, 1, 5)),
+        b'?' => text::number(text::columns_of(line, 13, 18)),
+        _ => text::code(text::columns_of(line, 1, 8)),
     }
 }
 
 // The service of a block is the number in its first line. Any text has one, so that a caller may ask before the block is checked.
 pub fn service_of(block: &[u8]) -> u64
-    ensures { λ r. ⌜ r ≡ serviceOf (asBlock (now (block .entry))) ⌝ }
+    ensures { λ r. ⌜ ((form : Form) → r ≡ serviceOf form (asBlock (now (block .entry)))) ⌝ }
 {
     match text::line_end(block, 0) {
         iff::Eol::Ended(e) => head_word(&block[0..e]),

@@ -1,14 +1,31 @@
-// The check program's work: eleven files of a folder read, checked and reported.
+// The check program's work: the files of a folder read, checked and reported.
+use folders::read_named;
 use iff::Answer;
 use iff::File;
+use iff::GroupFile;
+use iff::RowFile;
 use iff::Verdict;
 use reports::Report;
 ghost use mathlib.Core.Path.{_≡_};
 ghost use Rattle.iff.specs.Files.{eleven};
 ghost use Rattle.iff_rules.specs.Load.{loadAnswer};
-ghost use Rattle.io.specs.Counts.{Counts};
-ghost use Rattle.reports.specs.Texts.{Front};
-ghost use Rattle.checking.specs.Check.{roomFor64, checked};
+ghost use Rattle.reports.specs.Texts.{Appended, Front};
+ghost use Rattle.reports.specs.Report.{reportLine};
+ghost use Rattle.checking.specs.Check.{roomFor64, checked, FolderChecked};
+
+// A file's bytes. One byte more is read, so that a larger file is told by its length.
+const MOST_BYTES: usize = 4096;
+
+const READ_BYTES: usize = MOST_BYTES + 1;
+
+// A table's lines. Most rows have 6 words, those of TIMETBLS and XCHANGES have 7, and those with a vector's marks the most.
+const LINES: usize = 64;
+
+const WORDS: usize = LINES * 6;
+
+const WORDS_BY_SEVEN: usize = LINES * 7;
+
+const WORDS_OF_MARKS: usize = LINES * iff::limits::WIDEST_ROW;
 
 // A load into tables of its own, with room for 64 lines each.
 fn load_small(
@@ -24,19 +41,25 @@ fn load_small(
     xfootnote: &[u8],
     xchanges: &[u8],
 ) -> Answer
-    ensures { λ r. ⌜ r ≡ loadAnswer (eleven (now (delivery .entry)) (now (company .entry)) (now (country .entry)) (now (trnsmode .entry)) (now (timezone .entry)) (now (stations .entry)) (now (footnote .entry)) (now (timetbls .entry)) (now (changes .entry)) (now (xfootnote .entry)) (now (xchanges .entry))) roomFor64 ⌝ }
+    ensures { λ r. ⌜
+        r ≡ loadAnswer
+        (eleven (now (delivery .entry)) (now (company .entry)) (now (country .entry)) (now (trnsmode .entry))
+        (now (timezone .entry)) (now (stations .entry)) (now (footnote .entry)) (now (timetbls .entry))
+        (now (changes .entry)) (now (xfootnote .entry)) (now (xchanges .entry)))
+        roomFor64
+        ⌝ }
 {
-    let mut t_delivery = [0u64; 384];
-    let mut t_company = [0u64; 384];
-    let mut t_country = [0u64; 384];
-    let mut t_trnsmode = [0u64; 384];
-    let mut t_timezone = [0u64; 384];
-    let mut t_stations = [0u64; 384];
-    let mut t_footnote = [0u64; 896];
-    let mut t_timetbls = [0u64; 448];
-    let mut t_changes = [0u64; 384];
-    let mut t_xfootnote = [0u64; 896];
-    let mut t_xchanges = [0u64; 448];
+    let mut t_delivery = [0u64; WORDS];
+    let mut t_company = [0u64; WORDS];
+    let mut t_country = [0u64; WORDS];
+    let mut t_trnsmode = [0u64; WORDS];
+    let mut t_timezone = [0u64; WORDS];
+    let mut t_stations = [0u64; WORDS];
+    let mut t_footnote = [0u64; WORDS_OF_MARKS];
+    let mut t_timetbls = [0u64; WORDS_BY_SEVEN];
+    let mut t_changes = [0u64; WORDS];
+    let mut t_xfootnote = [0u64; WORDS_OF_MARKS];
+    let mut t_xchanges = [0u64; WORDS_BY_SEVEN];
     load::load(
         delivery,
         company,
@@ -64,7 +87,7 @@ fn load_small(
 }
 
 // What the check program says of eleven files.
-pub fn check(
+fn check(
     delivery: &[u8],
     company: &[u8],
     country: &[u8],
@@ -77,10 +100,15 @@ pub fn check(
     xfootnote: &[u8],
     xchanges: &[u8],
 ) -> Report
-    ensures { λ r. ⌜ r ≡ checked (eleven (now (delivery .entry)) (now (company .entry)) (now (country .entry)) (now (trnsmode .entry)) (now (timezone .entry)) (now (stations .entry)) (now (footnote .entry)) (now (timetbls .entry)) (now (changes .entry)) (now (xfootnote .entry)) (now (xchanges .entry))) ⌝ }
+    ensures { λ r. ⌜
+        r ≡ checked
+        (eleven (now (delivery .entry)) (now (company .entry)) (now (country .entry)) (now (trnsmode .entry))
+        (now (timezone .entry)) (now (stations .entry)) (now (footnote .entry)) (now (timetbls .entry))
+        (now (changes .entry)) (now (xfootnote .entry)) (now (xchanges .entry)))
+        ⌝ }
 {
     let sizes = sizes::lengths(
-        4096,
+        MOST_BYTES,
         delivery.len(),
         company.len(),
         country.len(),
@@ -111,60 +139,98 @@ pub fn check(
     }
 }
 
-// Reads a file of a folder into a buffer, as far as it has room, and answers how many bytes; none where it cannot be opened.
-fn read_named(folder: &[u8], file: File, buf: &mut [u8]) -> usize
-    ensures { λ r. ⌜ Counts r (now (buf .exit)) ⌝ }
-{
-    let mut path = io::buffer();
-    let n = reports::put_path(folder, file, &mut path);
-    let fd = os::open_read(&path[..n]);
-    if fd < 0 {
-        return 0;
-    }
-    let got = io::read_full(fd, buf);
-    libc::close(fd);
-    got
-}
-
-// Checks a folder, whose path is empty or ends in `/`, and puts the report's line at the front of a buffer. A file of 4,097 bytes or more
-// counts as one of 4,097, which is larger than the program reads.
-pub fn check_folder(folder: &[u8], out: &mut [u8]) -> usize
+// The report's line of eleven files, at the front of a buffer, and its length.
+pub fn check_files(
+    delivery: &[u8],
+    company: &[u8],
+    country: &[u8],
+    trnsmode: &[u8],
+    timezone: &[u8],
+    stations: &[u8],
+    footnote: &[u8],
+    timetbls: &[u8],
+    changes: &[u8],
+    xfootnote: &[u8],
+    xchanges: &[u8],
+    out: &mut [u8],
+) -> usize
     ensures { λ r. ⌜ Front r (now (out .exit)) ⌝ }
+    ensures { λ r. ⌜
+        Appended (now (out .entry)) 0
+        (reportLine (checked
+        (eleven (now (delivery .entry)) (now (company .entry)) (now (country .entry)) (now (trnsmode .entry))
+        (now (timezone .entry)) (now (stations .entry)) (now (footnote .entry)) (now (timetbls .entry))
+        (now (changes .entry)) (now (xfootnote .entry)) (now (xchanges .entry)))))
+        (now (out .exit)) r
+        ⌝ }
 {
-    let mut delivery = [0u8; 4097];
-    let n_delivery = read_named(folder, File::Delivery, &mut delivery);
-    let mut company = [0u8; 4097];
-    let n_company = read_named(folder, File::Company, &mut company);
-    let mut country = [0u8; 4097];
-    let n_country = read_named(folder, File::Country, &mut country);
-    let mut trnsmode = [0u8; 4097];
-    let n_trnsmode = read_named(folder, File::Trnsmode, &mut trnsmode);
-    let mut timezone = [0u8; 4097];
-    let n_timezone = read_named(folder, File::Timezone, &mut timezone);
-    let mut stations = [0u8; 4097];
-    let n_stations = read_named(folder, File::Stations, &mut stations);
-    let mut footnote = [0u8; 4097];
-    let n_footnote = read_named(folder, File::Footnote, &mut footnote);
-    let mut timetbls = [0u8; 4097];
-    let n_timetbls = read_named(folder, File::Timetbls, &mut timetbls);
-    let mut changes = [0u8; 4097];
-    let n_changes = read_named(folder, File::Changes, &mut changes);
-    let mut xfootnote = [0u8; 4097];
-    let n_xfootnote = read_named(folder, File::Xfootnote, &mut xfootnote);
-    let mut xchanges = [0u8; 4097];
-    let n_xchanges = read_named(folder, File::Xchanges, &mut xchanges);
     let report = check(
-        &delivery[..n_delivery],
-        &company[..n_company],
-        &country[..n_country],
-        &trnsmode[..n_trnsmode],
-        &timezone[..n_timezone],
-        &stations[..n_stations],
-        &footnote[..n_footnote],
-        &timetbls[..n_timetbls],
-        &changes[..n_changes],
-        &xfootnote[..n_xfootnote],
-        &xchanges[..n_xchanges],
+        delivery,
+        company,
+        country,
+        trnsmode,
+        timezone,
+        stations,
+        footnote,
+        timetbls,
+        changes,
+        xfootnote,
+        xchanges,
     );
     reports::put_report(report, out)
+}
+
+// Checks a folder, whose path is empty or ends in `/`, and puts the report's line at the front of a buffer. Each file is read under its own
+// name, and a file of 4,097 bytes or more counts as one of 4,097, which is larger than is allowed.
+pub fn check_folder(folder: &[u8], out: &mut [u8]) -> usize
+    ensures { λ r. ⌜ Front r (now (out .exit)) ⌝ }
+    ensures { λ r. ⌜ FolderChecked (now (folder .entry)) (now (out .entry)) (now (out .exit)) r ⌝ }
+{
+    let mut b_delivery = [0u8; READ_BYTES];
+    let n_delivery = read_named(File::Delivery, folder, &mut b_delivery);
+    let delivery = &b_delivery[..n_delivery];
+    let mut b_company = [0u8; READ_BYTES];
+    let n_company = read_named(File::Rows(RowFile::Company), folder, &mut b_company);
+    let company = &b_company[..n_company];
+    let mut b_country = [0u8; READ_BYTES];
+    let n_country = read_named(File::Rows(RowFile::Country), folder, &mut b_country);
+    let country = &b_country[..n_country];
+    let mut b_trnsmode = [0u8; READ_BYTES];
+    let n_trnsmode = read_named(File::Rows(RowFile::Trnsmode), folder, &mut b_trnsmode);
+    let trnsmode = &b_trnsmode[..n_trnsmode];
+    let mut b_timezone = [0u8; READ_BYTES];
+    let n_timezone = read_named(File::Groups(GroupFile::Timezone), folder, &mut b_timezone);
+    let timezone = &b_timezone[..n_timezone];
+    let mut b_stations = [0u8; READ_BYTES];
+    let n_stations = read_named(File::Rows(RowFile::Stations), folder, &mut b_stations);
+    let stations = &b_stations[..n_stations];
+    let mut b_footnote = [0u8; READ_BYTES];
+    let n_footnote = read_named(File::Groups(GroupFile::Footnote), folder, &mut b_footnote);
+    let footnote = &b_footnote[..n_footnote];
+    let mut b_timetbls = [0u8; READ_BYTES];
+    let n_timetbls = read_named(File::Timetbls, folder, &mut b_timetbls);
+    let timetbls = &b_timetbls[..n_timetbls];
+    let mut b_changes = [0u8; READ_BYTES];
+    let n_changes = read_named(File::Groups(GroupFile::Changes), folder, &mut b_changes);
+    let changes = &b_changes[..n_changes];
+    let mut b_xfootnote = [0u8; READ_BYTES];
+    let n_xfootnote = read_named(File::Groups(GroupFile::Xfootnote), folder, &mut b_xfootnote);
+    let xfootnote = &b_xfootnote[..n_xfootnote];
+    let mut b_xchanges = [0u8; READ_BYTES];
+    let n_xchanges = read_named(File::Groups(GroupFile::Xchanges), folder, &mut b_xchanges);
+    let xchanges = &b_xchanges[..n_xchanges];
+    check_files(
+        delivery,
+        company,
+        country,
+        trnsmode,
+        timezone,
+        stations,
+        footnote,
+        timetbls,
+        changes,
+        xfootnote,
+        xchanges,
+        out,
+    )
 }

@@ -30,7 +30,18 @@ pub extern "C" fn calyxcabin_load(
     t_xchanges: &mut [u64],
     answer: &mut [u64; 6],
 )
-    ensures { λ _. ⌜ LoadedInNumbers (eleven (now (delivery .entry)) (now (company .entry)) (now (country .entry)) (now (trnsmode .entry)) (now (timezone .entry)) (now (stations .entry)) (now (footnote .entry)) (now (timetbls .entry)) (now (changes .entry)) (now (xfootnote .entry)) (now (xchanges .entry))) (eleven (length (now («t_delivery» .entry))) (length (now («t_company» .entry))) (length (now («t_country» .entry))) (length (now («t_trnsmode» .entry))) (length (now («t_timezone» .entry))) (length (now («t_stations» .entry))) (length (now («t_footnote» .entry))) (length (now («t_timetbls» .entry))) (length (now («t_changes» .entry))) (length (now («t_xfootnote» .entry))) (length (now («t_xchanges» .entry)))) (now (answer .exit)) (eleven (now («t_delivery» .exit)) (now («t_company» .exit)) (now («t_country» .exit)) (now («t_trnsmode» .exit)) (now («t_timezone» .exit)) (now («t_stations» .exit)) (now («t_footnote» .exit)) (now («t_timetbls» .exit)) (now («t_changes» .exit)) (now («t_xfootnote» .exit)) (now («t_xchanges» .exit))) ⌝ }
+    ensures { λ _. ⌜ LoadedInNumbers
+        (eleven (now (delivery .entry)) (now (company .entry)) (now (country .entry)) (now (trnsmode .entry)) (now (timezone .entry))
+        (now (stations .entry)) (now (footnote .entry)) (now (timetbls .entry)) (now (changes .entry)) (now (xfootnote .entry))
+        (now (xchanges .entry)))
+        (eleven (length (now («t_delivery» .entry))) (length (now («t_company» .entry))) (length (now («t_country» .entry)))
+        (length (now («t_trnsmode» .entry))) (length (now («t_timezone» .entry))) (length (now («t_stations» .entry)))
+        (length (now («t_footnote» .entry))) (length (now («t_timetbls» .entry))) (length (now («t_changes» .entry)))
+        (length (now («t_xfootnote» .entry))) (length (now («t_xchanges» .entry))))
+        (now (answer .exit))
+        (eleven (now («t_delivery» .exit)) (now («t_company» .exit)) (now («t_country» .exit)) (now («t_trnsmode» .exit))
+        (now («t_timezone» .exit)) (now («t_stations» .exit)) (now («t_footnote» .exit)) (now («t_timetbls» .exit))
+        (now («t_changes» .exit)) (now («t_xfootnote» .exit)) (now («t_xchanges» .exit))) ⌝ }
 {
     let loaded = load::load(
         delivery,

@@ -1,35 +1,34 @@
 -- A file's first line in its text, and its row in an empty table. Assumes nothing.
-use Prim.Native.Nat.{ℕ, suc, _+_, _-_, _*_, _/_, _≤_, _<_}
+use Prim.Native.Nat.{ℕ, suc, _-_, _*_, _≤_}
 use mathlib.Core.Path.{_≡_, refl, ap, sym, _∙_}
 use mathlib.Core.List.{List, [], _∷_, _++_, append-nil}
-use mathlib.Core.Bool.{Bool, true, false, false≢true}
+use mathlib.Core.Bool.{Bool, true, false}
 use native.Mathlib.Nat.{suc-mul, one-mul, sub-zero}
 use native.Mathlib.Omega.{arith}
 use lib.Dec.{eqb}
-use lib.ListN.{length, getD, drop, replicate, length-append, length-replicate}
+use lib.ListN.{length, getD, take, drop, replicate, length-append, length-replicate}
 use Rattle.iff.specs.Lists.{same}
 use Rattle.iff.specs.Refusals.{firstTest}
 use Rattle.iff.specs.Lines.{Line, lines, noLine}
-use Rattle.iff.specs.Columns.{firstFields, recordFields, laid, fits, picture}
-use Rattle.iff.specs.Values.{words, fieldWords, readable}
-use Rattle.iff.specs.Tables.{Row, tag, rowWidth, padded, joined, fill, keyTag}
+use Rattle.iff.specs.Columns.{firstFields, recordFields, form424, laid}
+use Rattle.iff.specs.Values.{words, fieldWords}
+use Rattle.iff.specs.Tables.{tag, rowWidth, padded, joined, fill, keyTag}
 use Rattle.iff.specs.declared.File.{File}
-use Rattle.iff.specs.declared.File.the-variants.{Delivery, Company, Country, Trnsmode, Timezone, Stations, Footnote, Timetbls, Changes, Xfootnote, Xchanges}
-use Rattle.iff.specs.declared.Record.the-variants.{FirstRecord}
+use Rattle.iff.specs.declared.File.the-variants.{Delivery, Rows, Groups, Timetbls}
+use Rattle.iff.specs.declared.GroupFile.the-variants.{Timezone, Footnote, Changes, Xfootnote, Xchanges}
 use Rattle.iff.specs.declared.Reason.{Reason}
 use Rattle.iff.specs.declared.Test.{Test}
 use Rattle.iff.specs.declared.Test.the-variants.{Passes, Fails}
 use Rattle.iff_rules.specs.Rows.{firstRowOf}
-use Rattle.iff_rules.specs.Meaning.{firstMeaning}
 use Rattle.iff_rules.specs.Load.{firstLineTest}
 use Rattle.text.specs.declared.LineSpan.{LineSpan}
 use Rattle.text.specs.Spans.{LineAt, spanLine}
 use Rattle.tables.proofs.Rows.{row-in-table}
 use Rattle.tables.proofs.Filled.{drop-replicate}
 use Rattle.records.specs.Layouts.{lineOf}
-use Rattle.reading.specs.Reading.{FirstLegible, headLine, Ready, Begun, Split, FirstRead}
+use Rattle.reading.specs.Reading.{FirstLegible, headLine, Ready, Split, FirstRead}
 use Rattle.reading.specs.declared.Begin.the-variants.{Rest, Broken}
-use Rattle.heads.proofs.HeadLaws.{headTests, first-is}
+use Rattle.heads.proofs.HeadLaws.{headTests, first-is, laid-fits}
 
 -- a first line that passes is legible
 passing : (h a q v m : Bool) → Passes ≡ headTests h a q v m → (a ≡ true) × (v ≡ true)
@@ -41,32 +40,23 @@ passing true true false v m e = absurd (let z : _≡_ {A = ℕ} 0 1 = cc in omeg
 passing true true true false m e = absurd (let z : _≡_ {A = ℕ} 0 1 = cc in omega arith)
 passing true true true true false e = absurd (let z : _≡_ {A = ℕ} 0 1 = cc in omega arith)
 
-laid-fits : (l : Line) → laid l firstFields ≡ true → fits (l .body) (picture firstFields) ≡ true
-laid-fits l e = go (l .ended) refl e
-  where
-    go : (b : Bool) → l .ended ≡ b → laid (lineOf (l .body) b) firstFields ≡ true → fits (l .body) (picture firstFields) ≡ true
-    go true p q = q
-    go false p q = absurd (false≢true q)
-
 pub passing-legible : (s : Bool) (l : Line) → Passes ≡ firstLineTest s l → FirstLegible (l .body)
+unfolding recordFields
 passing-legible s l e =
     let p = passing _ _ _ _ _ (e ∙ first-is s l) in
-    record { fitting = laid-fits l (p .0); reading = p .1 }
+    record { fitting = laid-fits (form424 0) (l .body) (l .ended) (laid l firstFields) refl (p .0); reading = p .1 }
 
 -- the row of a first line: as wide as its table's rows, used, and the key of nothing
-first-width : (f : File) (l : Line) → length (firstRowOf f true l) ≡ rowWidth f
+pub first-width : (f : File) (l : Line) → length (firstRowOf f true l) ≡ rowWidth f
 unfolding firstRowOf padded words fieldWords
 first-width Delivery l = refl
-first-width Company l = refl
-first-width Country l = refl
-first-width Trnsmode l = refl
-first-width Timezone l = refl
-first-width Stations l = refl
-first-width Footnote l = refl
+first-width (Rows f) l = refl
+first-width (Groups Timezone) l = refl
+first-width (Groups Footnote) l = refl
+first-width (Groups Changes) l = refl
+first-width (Groups Xfootnote) l = refl
+first-width (Groups Xchanges) l = refl
 first-width Timetbls l = refl
-first-width Changes l = refl
-first-width Xfootnote l = refl
-first-width Xchanges l = refl
 
 first-used : (f : File) (l : Line) → eqb (tag (firstRowOf f true l)) 0 ≡ false
 unfolding firstRowOf padded
@@ -75,16 +65,9 @@ first-used f l = refl
 first-other : (f : File) (l : Line) → eqb (tag (firstRowOf f true l)) (keyTag f) ≡ false
 unfolding firstRowOf padded
 first-other Delivery l = refl
-first-other Company l = refl
-first-other Country l = refl
-first-other Trnsmode l = refl
-first-other Timezone l = refl
-first-other Stations l = refl
-first-other Footnote l = refl
+first-other (Rows f) l = refl
+first-other (Groups f) l = refl
 first-other Timetbls l = refl
-first-other Changes l = refl
-first-other Xfootnote l = refl
-first-other Xchanges l = refl
 
 -- the first line of a text, by where it ends
 module _ (text : List ℕ) (s : LineSpan) (a : LineAt text 0 s) where
@@ -131,8 +114,18 @@ module _ (text : List ℕ) (s : LineSpan) (a : LineAt text 0 s) where
                 };
           }
 
+-- its body, where there is a first line
+pub no-body : (text : List ℕ) → length text ≡ 0 → [] ≡ headLine text .body
+unfolding lines
+no-body [] e = refl
+no-body (x ∷ xs) e = absurd (omega arith)
+
+pub some-body : (text : List ℕ) (s : LineSpan) → LineAt text 0 s → take (s .end - 0) text ≡ headLine text .body
+some-body text s a = sym (ap (λ (l : Line). l .body) (head-is text s a))
+
 -- what is said of a first line
-module _ (f : File) (header text was : List ℕ) (s : LineSpan) (a : LineAt text 0 s) (x : Test) (e : x ≡ firstLineTest (same (spanLine text 0 s .body) header) (spanLine text 0 s)) where
+module _ (f : File) (header text was : List ℕ) (s : LineSpan) (a : LineAt text 0 s) (x : Test)
+    (e : x ≡ firstLineTest (same (spanLine text 0 s .body) header) (spanLine text 0 s)) where
   pub refused : (k : Reason) → x ≡ Fails k → FirstRead f header text was was (headLine text) (Broken k)
   refused k p =
       record {
@@ -144,15 +137,19 @@ module _ (f : File) (header text was : List ℕ) (s : LineSpan) (a : LineAt text
   pub legible : x ≡ Passes → FirstLegible (spanLine text 0 s .body)
   legible p = passing-legible _ (spanLine text 0 s) (sym p ∙ e)
 
-  module _ (r : Ready f text was) (row is : List ℕ) (p : x ≡ Passes) (q : row ≡ firstRowOf f true (lineOf (spanLine text 0 s .body) true)) (u : is ≡ row ++ drop (rowWidth f) was) where
+  module _ (r : Ready f text was) (row : List ℕ) (p : x ≡ Passes) (q : row ≡ firstRowOf f true (lineOf (spanLine text 0 s .body) true)) (w : ℕ)
+      (h : w ≡ rowWidth f) where
     as-row : row ≡ firstRowOf f true (headLine text)
     unfolding firstRowOf
     as-row = rw (head-is text s a) q
 
-    pub accepted : FirstRead f header text was is (headLine text) (Rest (s .next))
+    in-front : row ++ drop (w - 0) was ≡ row ++ drop (rowWidth f) was
+    in-front = rw (sub-zero, h)
+
+    pub accepted : FirstRead f header text was (row ++ drop (w - 0) was) (headLine text) (Rest (s .next))
     accepted =
         record {
           test = rw (head-is text s a) (sym p ∙ e);
-          rest = λ from z. let n : from ≡ s .next = cc in rw n (split text s a f was r row is as-row u);
-          kept = kept-length text s a f was r row is as-row u;
+          rest = λ from z. let n : from ≡ s .next = cc in rw n (split text s a f was r row _ as-row in-front);
+          kept = kept-length text s a f was r row _ as-row in-front;
         }

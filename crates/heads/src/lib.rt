@@ -1,5 +1,7 @@
-// First lines: their tests, their rows, and what the readers of the lines after them share.
+// First lines: their tests, their rows, what the readers of the lines after them share, and the form of those lines.
+use iff::Edition;
 use iff::File;
+use iff::Form;
 use iff::Place;
 use iff::Reason;
 use iff::Record;
@@ -11,13 +13,19 @@ ghost use mathlib.Core.Bool.{true};
 ghost use Prim.Native.Nat.{_<_};
 ghost use lib.ListN.{length, set};
 ghost use Rattle.iff.specs.Lists.{same};
-ghost use Rattle.iff_rules.specs.Rows.{flag, firstRowOf};
+ghost use Rattle.iff.specs.Refusals.{fine};
 ghost use Rattle.iff.specs.declared.File.the-variants.{Delivery};
+ghost use Rattle.iff_rules.specs.Rows.{flag, firstRowOf, formOf};
 ghost use Rattle.iff_rules.specs.Meaning.{firstMeaning};
 ghost use Rattle.iff_rules.specs.Load.{firstLineTest};
 ghost use Rattle.records.specs.Layouts.{lineOf};
-ghost use Rattle.reading.specs.Reading.{FirstLegible, FirstRow, isNumbered, headLine, Ready, FirstRead, DeliveryRead};
-ghost use Rattle.iff.specs.Refusals.{fine};
+ghost use Rattle.reading.specs.Reading.{FirstLegible, FirstRow, headLine, Ready, FirstRead, DeliveryRead};
+
+// The columns of a first line are the same in every form.
+const ANY_FORM: Form = Form {
+    days: 0,
+    edition: Edition::Iff424,
+};
 
 // The days that a first line names. Its layout and digits are right.
 fn days_right(line: &[u8]) -> bool
@@ -25,7 +33,14 @@ fn days_right(line: &[u8]) -> bool
     ensures { λ r. ⌜ r ≡ firstMeaning (firstRowOf Delivery true (lineOf (now (line .entry)) true)) ⌝ }
 {
     let mut row = [0u64; 6];
-    records::put_words(Record::FirstRecord, 64, 0, 0, line, &mut row);
+    records::put_words(
+        Record::FirstRecord,
+        iff::tags::AT,
+        ANY_FORM,
+        0,
+        line,
+        &mut row,
+    );
     meanings::first_means(&row)
 }
 
@@ -36,13 +51,13 @@ pub fn first_line(line: &[u8], ended: bool, header: &[u8]) -> Test
     if text::first_byte(line) != b'@' {
         return Test::Fails(Reason::Order);
     }
-    if !records::is_laid(Record::FirstRecord, 0, line, ended) {
+    if !records::is_laid(Record::FirstRecord, ANY_FORM, line, ended) {
         return Test::Fails(Reason::Layout);
     }
     if !text::same_bytes(line, header) {
         return Test::Fails(Reason::FirstLine);
     }
-    if !records::is_readable(Record::FirstRecord, 0, line) {
+    if !records::is_readable(Record::FirstRecord, ANY_FORM, line) {
         return Test::Fails(Reason::Value);
     }
     if !days_right(line) {
@@ -63,36 +78,23 @@ fn put_first(file: File, rises: bool, line: &[u8], row: &mut [u64])
     requires { ⌜ FirstRow file (now line) (now row) ⌝ }
     ensures { λ _. ⌜ now (row .exit) ≡ firstRowOf file rises (lineOf (now (line .entry)) true) ⌝ }
 {
-    records::put_words(Record::FirstRecord, 64, 0, 0, line, row);
-    row[5] = flag_of(rises);
-    if is_numbered(file) {
-        row[6] = 1;
-    }
-}
-
-// Rows of TIMETBLS have their line's number.
-fn is_numbered(file: File) -> bool
-    ensures { λ r. ⌜ r ≡ isNumbered file ⌝ }
-{
+    records::put_words(Record::FirstRecord, iff::tags::AT, ANY_FORM, 0, line, row);
+    row[iff::words::RISES] = flag_of(rises);
     match file {
-        File::Timetbls => true,
-        File::Delivery => false,
-        File::Company => false,
-        File::Country => false,
-        File::Trnsmode => false,
-        File::Timezone => false,
-        File::Stations => false,
-        File::Footnote => false,
-        File::Changes => false,
-        File::Xfootnote => false,
-        File::Xchanges => false,
+        File::Delivery => {}
+        File::Rows(_) => {}
+        File::Groups(_) => {}
+        File::Timetbls => {
+            row[iff::words::LINE_NUMBER] = 1;
+        }
     }
 }
 
 // A file's first line: tested, and its row put into the empty table. Until the rows after it are read, their keys are taken to rise, as none do.
 pub fn begin_file(file: File, text: &[u8], header: &[u8], t: &mut [u64]) -> Begin
     requires { ⌜ (0 < length (now text)) × Ready file (now text) (now t) ⌝ }
-    ensures { λ r. ⌜ FirstRead file (now (header .entry)) (now (text .entry)) (now (t .entry)) (now (t .exit)) (headLine (now (text .entry))) r ⌝ }
+    ensures { λ r. ⌜ FirstRead file (now (header .entry)) (now (text .entry)) (now (t .entry)) (now (t .exit))
+        (headLine (now (text .entry))) r ⌝ }
 {
     let s = text::line_at(text, 0);
     let end = s.end;
@@ -113,7 +115,7 @@ pub fn set_rises(t: &mut [u64], rises: bool)
     requires { ⌜ 5 < length (now t) ⌝ }
     ensures { λ _. ⌜ now (t .exit) ≡ set (now (t .entry)) 5 (flag rises) ⌝ }
 {
-    t[5] = flag_of(rises);
+    t[iff::words::RISES] = flag_of(rises);
 }
 
 // DELIVERY, after a verdict on what came before it: its first line, which is as itself, and no line more.
@@ -139,5 +141,31 @@ pub fn read_delivery(v: Verdict, text: &[u8], t: &mut [u64]) -> Verdict
                 }
             }
         }
+    }
+}
+
+// WHAT DELIVERY'S FIRST LINE SAYS OF THE OTHER FILES
+
+// The body of a text's first line; nothing where there is none.
+pub fn first_body<'a>(text: &'a [u8]) -> &'a [u8]
+    ensures { λ r. ⌜ now r ≡ headLine (now (text .entry)) .body ⌝ }
+{
+    if text.len() == 0 {
+        return &text[0..0];
+    }
+    let s = text::line_at(text, 0);
+    let end = s.end;
+    &text[0..end]
+}
+
+// The form of a delivery's lines, by DELIVERY's row: its days of validity, and the edition.
+pub fn form_of(delivery: &[u64]) -> Form
+    ensures { λ r. ⌜ r ≡ formOf (now (delivery .entry)) ⌝ }
+{
+    let first = tables::word_or_zero(delivery, iff::words::FIRST_DAY);
+    let last = tables::word_or_zero(delivery, iff::words::LAST_DAY);
+    Form {
+        days: calendar::span(first, last) as usize,
+        edition: Edition::Iff424,
     }
 }

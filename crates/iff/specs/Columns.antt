@@ -9,8 +9,15 @@ use Rattle.iff.specs.Lists.{all2}
 use Rattle.iff.specs.Lines.{Line}
 use Rattle.iff.specs.declared.Record.{Record}
 use Rattle.iff.specs.declared.Record.the-variants.{FirstRecord, CompanyRow, CountryRow, ModeRow, ZoneHead, ZonePeriod, StationRow, FootnoteHead, FootnoteVector, ServiceHead, TrainNumber, Validity, Transport, Attribute, PlainStop, Interval, Passed, Platform, ChangeHead, ChangePair, ChangeException}
+use Rattle.iff.specs.declared.RowFile.{RowFile}
+use Rattle.iff.specs.declared.RowFile.the-variants.{Company, Country, Trnsmode, Stations}
+use Rattle.iff.specs.declared.GroupFile.{GroupFile}
+use Rattle.iff.specs.declared.GroupFile.the-variants.{Timezone, Footnote, Changes, Xfootnote, Xchanges}
 use Rattle.iff.specs.declared.File.{File}
-use Rattle.iff.specs.declared.File.the-variants.{Delivery, Company, Country, Trnsmode, Timezone, Stations, Footnote, Timetbls, Changes, Xfootnote, Xchanges}
+use Rattle.iff.specs.declared.File.the-variants.{Delivery, Rows, Groups, Timetbls}
+use Rattle.iff.specs.declared.Edition.{Edition}
+use Rattle.iff.specs.declared.Edition.the-variants.{Iff424}
+use Rattle.iff.specs.declared.Form.{Form}
 
 -- what a field holds: the record's letter; a number; a stop's number (first, last); a company's number or the wildcard;
 -- a code; a vector's marks; free text; a column that is not read
@@ -125,37 +132,41 @@ abbrev pub exceptionFields : List Field
 exceptionFields =
     letterField ∷ cols 2 4 NumberOrAny ∷ cols 6 9 Code ∷ cols 11 13 NumberOrAny ∷ cols 15 18 Code ∷ cols 20 22 Number ∷ cols 24 28 Number ∷ []
 
--- 4.2.4's variant, 12-18
-abbrev pub variantWidth : ℕ
-variantWidth = 7
+-- the variant's width in an edition: 4.2.4's is 12-18
+abbrev pub variantOf : Edition → ℕ
+variantOf Iff424 = 7
+
+-- the form of a delivery of 4.2.4 over some days
+abbrev pub form424 : ℕ → Form
+form424 days = record { days = days; edition = Iff424 }
 
 -- one value for each letter of a list of cases, else the last
 abbrev pub on : {A : Type 0} → ℕ → ℕ → A → A → A
 on x k a b = cond (eqb x k) a b
 
 -- every record of the table; a vector has as many columns as there are days
-unfoldable pub recordFields : ℕ → Record → List Field
-recordFields days FirstRecord = firstFields
-recordFields days CompanyRow = companyFields
-recordFields days CountryRow = countryFields
-recordFields days ModeRow = modeFields
-recordFields days ZoneHead = zoneFields
-recordFields days ZonePeriod = periodFields
-recordFields days StationRow = stationFields
-recordFields days FootnoteHead = footnoteFields
-recordFields days FootnoteVector = vectorFields days
-recordFields days ServiceHead = serviceFields
-recordFields days TrainNumber = numberFields variantWidth
-recordFields days Validity = validityFields
-recordFields days Transport = transportFields
-recordFields days Attribute = attributeFields
-recordFields days PlainStop = stopFields
-recordFields days Interval = intervalFields
-recordFields days Passed = passedFields
-recordFields days Platform = platformFields
-recordFields days ChangeHead = changeStationFields
-recordFields days ChangePair = pairFields
-recordFields days ChangeException = exceptionFields
+unfoldable pub recordFields : Form → Record → List Field
+recordFields form FirstRecord = firstFields
+recordFields form CompanyRow = companyFields
+recordFields form CountryRow = countryFields
+recordFields form ModeRow = modeFields
+recordFields form ZoneHead = zoneFields
+recordFields form ZonePeriod = periodFields
+recordFields form StationRow = stationFields
+recordFields form FootnoteHead = footnoteFields
+recordFields form FootnoteVector = vectorFields (form .days)
+recordFields form ServiceHead = serviceFields
+recordFields form TrainNumber = numberFields (variantOf (form .edition))
+recordFields form Validity = validityFields
+recordFields form Transport = transportFields
+recordFields form Attribute = attributeFields
+recordFields form PlainStop = stopFields
+recordFields form Interval = intervalFields
+recordFields form Passed = passedFields
+recordFields form Platform = platformFields
+recordFields form ChangeHead = changeStationFields
+recordFields form ChangePair = pairFields
+recordFields form ChangeException = exceptionFields
 
 -- the record that begins with x, after the first line; in a file without record letters, its row
 unfoldable pub blockRecord : ℕ → Record
@@ -170,21 +181,27 @@ blockRecord x =
     (on x question Platform
     PlainStop)))))))
 
+abbrev pub rowRecord : RowFile → Record
+rowRecord Company = CompanyRow
+rowRecord Country = CountryRow
+rowRecord Trnsmode = ModeRow
+rowRecord Stations = StationRow
+
+abbrev pub groupRecord : GroupFile → ℕ → Record
+groupRecord Timezone x = on x hash ZoneHead ZonePeriod
+groupRecord Footnote x = on x hash FootnoteHead FootnoteVector
+groupRecord Changes x = on x hash ChangeHead ChangePair
+groupRecord Xfootnote x = on x hash FootnoteHead FootnoteVector
+groupRecord Xchanges x = on x hash ChangeHead ChangeException
+
 unfoldable pub recordOf : File → ℕ → Record
 recordOf Delivery x = FirstRecord
-recordOf Company x = CompanyRow
-recordOf Country x = CountryRow
-recordOf Trnsmode x = ModeRow
-recordOf Timezone x = on x hash ZoneHead ZonePeriod
-recordOf Stations x = StationRow
-recordOf Footnote x = on x hash FootnoteHead FootnoteVector
+recordOf (Rows f) x = rowRecord f
+recordOf (Groups f) x = groupRecord f x
 recordOf Timetbls x = blockRecord x
-recordOf Changes x = on x hash ChangeHead ChangePair
-recordOf Xfootnote x = on x hash FootnoteHead FootnoteVector
-recordOf Xchanges x = on x hash ChangeHead ChangeException
 
-unfoldable pub fieldsOf : ℕ → File → ℕ → List Field
-fieldsOf days f x = recordFields days (recordOf f x)
+unfoldable pub fieldsOf : Form → File → ℕ → List Field
+fieldsOf form f x = recordFields form (recordOf f x)
 
 -- a record's columns, one mark for each: a comma for a gap, else what the column's field holds
 abbrev pub mark : Class → ℕ

@@ -8,3 +8,4 @@ pub mod Values
 pub mod Days
 pub mod Times
 pub mod Tables
+pub mod Words

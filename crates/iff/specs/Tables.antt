@@ -6,8 +6,12 @@ use lib.ListN.{length, getD, take, drop, replicate}
 use lib.Dec.{eqb, ltb, leb}
 use Rattle.iff.specs.Lists.{all, any, kept, position}
 use Rattle.iff.specs.Bytes.{hash}
+use Rattle.iff.specs.declared.RowFile.{RowFile}
+use Rattle.iff.specs.declared.RowFile.the-variants.{Company, Country, Trnsmode, Stations}
+use Rattle.iff.specs.declared.GroupFile.{GroupFile}
+use Rattle.iff.specs.declared.GroupFile.the-variants.{Timezone, Footnote, Changes, Xfootnote, Xchanges}
 use Rattle.iff.specs.declared.File.{File}
-use Rattle.iff.specs.declared.File.the-variants.{Delivery, Company, Country, Trnsmode, Timezone, Stations, Footnote, Timetbls, Changes, Xfootnote, Xchanges}
+use Rattle.iff.specs.declared.File.the-variants.{Delivery, Rows, Groups, Timetbls}
 use Rattle.iff.specs.declared.RowOf.{RowOf}
 use Rattle.iff.specs.declared.RowOf.the-variants.{Row as RowIs, NoRow}
 
@@ -28,18 +32,18 @@ abbrev pub isHashRow : Row → Bool
 isHashRow r = eqb (tag r) hash
 
 -- how many words a row of each table has
+abbrev pub groupWidth : GroupFile → ℕ
+groupWidth Timezone = 6
+groupWidth Footnote = 14
+groupWidth Changes = 6
+groupWidth Xfootnote = 14
+groupWidth Xchanges = 7
+
 abbrev pub rowWidth : File → ℕ
 rowWidth Delivery = 6
-rowWidth Company = 6
-rowWidth Country = 6
-rowWidth Trnsmode = 6
-rowWidth Timezone = 6
-rowWidth Stations = 6
-rowWidth Footnote = 14
+rowWidth (Rows f) = 6
+rowWidth (Groups f) = groupWidth f
 rowWidth Timetbls = 7
-rowWidth Changes = 6
-rowWidth Xfootnote = 14
-rowWidth Xchanges = 7
 
 -- "Room is counted in lines; a lent table's length gives it."
 abbrev pub room : File → ℕ → ℕ
@@ -84,30 +88,22 @@ allZero t = all (eqb 0) t
 -- KEYS: the rows that name something others refer to, and the word that names it
 abbrev pub keyTag : File → ℕ
 keyTag Delivery = letterless
-keyTag Company = letterless
-keyTag Country = letterless
-keyTag Trnsmode = letterless
-keyTag Timezone = hash
-keyTag Stations = letterless
-keyTag Footnote = hash
+keyTag (Rows f) = letterless
+keyTag (Groups f) = hash
 keyTag Timetbls = hash
-keyTag Changes = hash
-keyTag Xfootnote = hash
-keyTag Xchanges = hash
 
 -- a station's short name stands after its flag
+abbrev pub rowKeyWord : RowFile → ℕ
+rowKeyWord Company = 1
+rowKeyWord Country = 1
+rowKeyWord Trnsmode = 1
+rowKeyWord Stations = 2
+
 abbrev pub keyWord : File → ℕ
 keyWord Delivery = 1
-keyWord Company = 1
-keyWord Country = 1
-keyWord Trnsmode = 1
-keyWord Timezone = 1
-keyWord Stations = 2
-keyWord Footnote = 1
+keyWord (Rows f) = rowKeyWord f
+keyWord (Groups f) = 1
 keyWord Timetbls = 1
-keyWord Changes = 1
-keyWord Xfootnote = 1
-keyWord Xchanges = 1
 
 abbrev pub keysOf : File → List Row → List ℕ
 keysOf f rs = map (λ r. word r (keyWord f)) (kept (λ r. eqb (tag r) (keyTag f)) rs)

@@ -1,18 +1,44 @@
 // Document 01's answers as types. The number and values that the paper gives each case are in specs/Refusals.antt.
 
-// The eleven files. A name, and no number: which comes when, and which is needed, is for specs/Files.antt to say.
-pub enum File {
-    Delivery,
+pub mod limits;
+pub mod tags;
+pub mod words;
+
+// The eleven files, by kind. A name, and no number: which comes when, and which is needed, is for specs/Files.antt to say.
+// Files of rows: without record letters, so that every line after the first is a row.
+pub enum RowFile {
     Company,
     Country,
     Trnsmode,
-    Timezone,
     Stations,
+}
+
+// Files of groups: each group opens with a line beginning `#`.
+pub enum GroupFile {
+    Timezone,
     Footnote,
-    Timetbls,
     Changes,
     Xfootnote,
     Xchanges,
+}
+
+// DELIVERY has its first line alone, and TIMETBLS has blocks.
+pub enum File {
+    Delivery,
+    Rows(RowFile),
+    Groups(GroupFile),
+    Timetbls,
+}
+
+// The edition of IFF that a delivery is written in.
+pub enum Edition {
+    Iff424,
+}
+
+// What the columns of a delivery's lines depend on: the days of validity, one for each mark of a vector, and the edition.
+pub struct Form {
+    pub days: usize,
+    pub edition: Edition,
 }
 
 // The records of the Columns table, in its order.
@@ -104,6 +130,13 @@ pub enum Stand {
 pub struct InBlock {
     pub stand: Stand,
     pub stops: u64,
+}
+
+// Where the lines of a group stand: before its `#`, right after it, or after a line that follows it.
+pub enum GroupStand {
+    Opening,
+    Opened,
+    Going,
 }
 
 // What a record's letter does there.

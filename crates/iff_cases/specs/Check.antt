@@ -5,7 +5,7 @@ use mathlib.Core.List.{List, [], _∷_}
 use lib.ListN.{replicate}
 use Rattle.iff.specs.Files.{PerFile}
 use Rattle.iff.specs.Bytes.{bytes}
-use Rattle.iff_cases.specs.Text.{textOf, linesOf}
+use Rattle.iff_cases.specs.Text.{textOf, written}
 
 -- 01012015 to 10032017
 abbrev pub eightHundred : String
@@ -27,20 +27,19 @@ lastStop = "<BBB    ,1000"
 abbrev pub checked : String → ℕ → String → PerFile (List ℕ)
 checked first days last =
     record {
-      delivery = textOf (bytes first ∷ []);
-      company = textOf (linesOf (first ∷ "100,RAIL      ,Railways                      ,0400" ∷ []));
-      country = textOf (linesOf (first ∷ "NL  ,1,Netherlands                   " ∷ []));
-      trnsmode = textOf (linesOf (first ∷ "IC  ,Intercity                     " ∷ []));
-      timezone = textOf (linesOf (first ∷ "#0000" ∷ "+00,01012015,31122017" ∷ []));
+      delivery = written (first ∷ []);
+      company = written (first ∷ "100,RAIL      ,Railways                      ,0400" ∷ []);
+      country = written (first ∷ "NL  ,1,Netherlands                   " ∷ []);
+      trnsmode = written (first ∷ "IC  ,Intercity                     " ∷ []);
+      timezone = written (first ∷ "#0000" ∷ "+00,01012015,31122017" ∷ []);
       stations =
-          textOf
-          (linesOf
+          written
           (first
           ∷ "1,AAA    ,05,05,NL  ,0000,  ,000000,000000,Alpha                         "
           ∷ "1,BBB    ,05,05,NL  ,0000,  ,000000,000000,Beta                          "
-          ∷ []));
+          ∷ []);
       footnote = textOf (bytes first ∷ bytes "#00001" ∷ replicate days 49 ∷ []);
-      timetbls = textOf (linesOf (first ∷ six last));
+      timetbls = written (first ∷ six last);
       changes = [];
       xfootnote = [];
       xchanges = [];

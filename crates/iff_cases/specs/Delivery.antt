@@ -7,12 +7,55 @@ use lib.ListN.{length, take, drop}
 use lib.Dec.{eqb}
 use Rattle.iff.specs.Files.{PerFile, of, perFile, fileNumber}
 use Rattle.iff.specs.declared.File.{File}
-use Rattle.iff_cases.specs.Text.{textOf, linesOf}
+use Rattle.iff_cases.specs.Text.{written}
 
 -- the first line of each file: company 100, ten days of 1615, whose days fall as those of 2015 and need few years counted
 abbrev pub header : String
 header = "@100,01011615,10011615,0001,Cases                         "
 
+-- the lines of its three services
+abbrev pub block7 : List String
+block7 =
+    "#00000007"
+    ∷ "%100,00012,NACHT  ,000,999,Night boat                    "
+    ∷ "-00001,000,999"
+    ∷ "&BOAT,000,999"
+    ∷ "*FIET,001,002,00001"
+    ∷ ">AAA    ,0330"
+    ∷ "?1    ,     ,00001"
+    ∷ ";BBB    "
+    ∷ "+CCC    ,2430,2510"
+    ∷ "<AAA    ,2600"
+    ∷ []
+
+abbrev pub block8 : List String
+block8 =
+    "#00000008"
+    ∷ "%200,00013,       ,001,003,                              "
+    ∷ "-00002,001,002"
+    ∷ "-00001,002,003"
+    ∷ "&IC  ,001,003"
+    ∷ ">CCC    ,0030"
+    ∷ ".BBB    ,0200"
+    ∷ "<AAA    ,0301"
+    ∷ []
+
+abbrev pub block9 : List String
+block9 =
+    "#00000009"
+    ∷ "%200,00014,       ,001,003,                              "
+    ∷ "%100,00014,       ,003,004,                              "
+    ∷ "-00001,000,999"
+    ∷ "&IC  ,001,002"
+    ∷ "&BOAT,002,999"
+    ∷ ">BBB    ,0100"
+    ∷ "+CCC    ,9999,0230"
+    ∷ "+AAA    ,0300,9999"
+    ∷ "<BBB    ,0400"
+    ∷ "?     ,2    ,00002"
+    ∷ []
+
+-- zones' periods reach four days past the last day, or further
 abbrev pub small : PerFile (List String)
 small =
     record {
@@ -39,7 +82,7 @@ small =
           ∷ "+01,01011615,05011615"
           ∷ "+02,06011615,31121615"
           ∷ "#0001"
-          ∷ "-01,01011615,09011615"
+          ∷ "-01,01011615,14011615"
           ∷ [];
       stations =
           header
@@ -54,38 +97,7 @@ small =
           ∷ "#00002"
           ∷ "1010101010"
           ∷ [];
-      timetbls =
-          header
-          ∷ "#00000007"
-          ∷ "%100,00012,NACHT  ,000,999,Night boat                    "
-          ∷ "-00001,000,999"
-          ∷ "&BOAT,000,999"
-          ∷ "*FIET,001,002,00001"
-          ∷ ">AAA    ,0330"
-          ∷ "?1    ,     ,00001"
-          ∷ ";BBB    "
-          ∷ "+CCC    ,2430,2510"
-          ∷ "<AAA    ,2600"
-          ∷ "#00000008"
-          ∷ "%200,00013,       ,001,003,                              "
-          ∷ "-00002,001,002"
-          ∷ "-00001,002,003"
-          ∷ "&IC  ,001,003"
-          ∷ ">CCC    ,0030"
-          ∷ ".BBB    ,0200"
-          ∷ "<AAA    ,0301"
-          ∷ "#00000009"
-          ∷ "%200,00014,       ,001,003,                              "
-          ∷ "%100,00014,       ,003,004,                              "
-          ∷ "-00001,000,999"
-          ∷ "&IC  ,001,002"
-          ∷ "&BOAT,002,999"
-          ∷ ">BBB    ,0100"
-          ∷ "+CCC    ,9999,0230"
-          ∷ "+AAA    ,0300,9999"
-          ∷ "<BBB    ,0400"
-          ∷ "?     ,2    ,00002"
-          ∷ [];
+      timetbls = header ∷ (block7 ++ (block8 ++ block9));
       changes =
           header
           ∷ "#CCC    "
@@ -114,6 +126,20 @@ small =
           ∷ [];
     }
 
+-- other lines for service 8
+abbrev pub other8 : List String
+other8 =
+    "#00000008"
+    ∷ "%200,00013,       ,000,999,                              "
+    ∷ "-00001,000,999"
+    ∷ "&BOAT,000,002"
+    ∷ "&IC  ,002,999"
+    ∷ ">CCC    ,0040"
+    ∷ "+BBB    ,0210,0220"
+    ∷ "?     ,3    ,00002"
+    ∷ "<AAA    ,0311"
+    ∷ []
+
 -- CHANGES TO A FILE'S LINES, counted from 1, the first line included
 -- another line in the place of line k
 abbrev pub put : ℕ → String → List String → List String
@@ -141,7 +167,7 @@ edit f g = at f g small
 
 -- the bytes of eleven files, every line ended
 abbrev pub files : PerFile (List String) → PerFile (List ℕ)
-files D = perFile (λ f. textOf (linesOf (of D f)))
+files D = perFile (λ f. written (of D f))
 
 -- the last n bytes of a text left out
 abbrev pub short : ℕ → List ℕ → List ℕ

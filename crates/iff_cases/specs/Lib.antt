@@ -23,3 +23,5 @@ pub mod AmendCases
 pub mod Soundness
 pub mod TooLong
 pub mod LineCases
+pub mod AnswerCases
+pub mod Borders

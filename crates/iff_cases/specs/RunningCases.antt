@@ -5,10 +5,7 @@ use mathlib.Core.List.{List, [], _∷_}
 use Rattle.iff.specs.Files.{perFile}
 use Rattle.iff_cases.specs.Claims.{Claim, claim, Hold}
 use Rattle.iff_cases.specs.Opened.{opened}
-use Rattle.iff_cases.specs.Stored.{stored}
-use Rattle.iff_cases.specs.Delivery.{at}
-use lib.ListN.{set}
-use Rattle.iff.specs.declared.File.the-variants.{Company}
+use Rattle.iff_cases.specs.Stored.{stored, tampered}
 use Rattle.iff_desk.specs.Running.{runningDay}
 use Rattle.iff.specs.declared.Reason.the-variants.{NoService, NoStop, NoDate, NotSound}
 use Rattle.iff_desk.specs.declared.Running.the-variants.{Runs, Rests, RunningRefused}
@@ -26,7 +23,15 @@ runnings =
     -- 1111111111 on leg 2 of the same service
     claim "another leg on the second day" (runningDay stored 8 2 2011615) Runs ∷
     claim "a leg up to 999" (runningDay stored 9 3 10011615) Runs ∷
-    -- "12, 13, 14"
+    []
+
+pub runnings-hold : Hold runnings
+unfolding opened
+runnings-hold = (refl, (refl, (refl, (refl, (refl, (refl, (refl, tt)))))))
+
+-- 12, 13, 14 and 16
+abbrev pub refusals : List Claim
+refusals =
     claim "no such service" (runningDay stored 6 1 1011615) (RunningRefused NoService) ∷
     claim "a service beyond eight digits" (runningDay stored 100000007 1 1011615) (RunningRefused NoService) ∷
     claim "leg 0" (runningDay stored 7 0 1011615) (RunningRefused NoStop) ∷
@@ -41,9 +46,9 @@ runnings =
     claim "13 before 14" (runningDay stored 7 0 0) (RunningRefused NoStop) ∷
     -- "Calls that are lent a loaded store test 16 first."
     claim "empty tables" (runningDay (perFile (λ f. [])) 6 0 0) (RunningRefused NotSound) ∷
-    claim "one word that should be zero" (runningDay (at Company (λ t. set t 24 1) stored) 7 1 1011615) (RunningRefused NotSound) ∷
+    claim "one word that should be zero" (runningDay tampered 7 1 1011615) (RunningRefused NotSound) ∷
     []
 
-pub runnings-hold : Hold runnings
+pub refusals-hold : Hold refusals
 unfolding opened
-runnings-hold = (refl, (refl, (refl, (refl, (refl, (refl, (refl, (refl, (refl, (refl, (refl, (refl, (refl, (refl, (refl, (refl, (refl, (refl, (refl, tt)))))))))))))))))))
+refusals-hold = (refl, (refl, (refl, (refl, (refl, (refl, (refl, (refl, (refl, (refl, (refl, (refl, tt))))))))))))

@@ -12,15 +12,16 @@ use Rattle.iff.specs.Tables.{Row}
 use Rattle.iff.specs.declared.DayOf.the-variants.{Day, NotADay}
 use Rattle.iff.specs.declared.MinutesOf.the-variants.{Minutes, NoMinutes}
 use Rattle.iff_rules.specs.Meaning.{firstMeaning}
-use Rattle.iff_rules.specs.Legs.{covering, covered, ofKind, legs}
+use Rattle.iff_rules.specs.Legs.{covering, covered, ofKind, reachOf, legs}
 use Rattle.iff_desk.specs.Changing.{rank, better, best, core}
 use Rattle.iff_desk.specs.declared.Source.the-variants.{FromChanges, FromStations, FromXchanges}
 use Rattle.iff_desk.specs.declared.Change.the-variants.{NoShort, Yes, Unsettled}
 use Rattle.iff_desk.specs.declared.Pair.the-variants.{Possibility, NoPair}
 use Rattle.iff_desk.specs.declared.Best.the-variants.{BestRow, NoBest}
-use Rattle.iff_cases.specs.Claims.{Claim, claim, Hold}
+use Rattle.iff_cases.specs.Claims.{Claim, claim, Hold, both-hold}
 use Rattle.iff_cases.specs.Opened.{opened}
 use Rattle.iff_cases.specs.Shown.{accepted, refused, DELIVERY, TIMETBLS, loadOf}
+use Rattle.iff_cases.specs.Stored.{AAA, BBB, CCC}
 use Rattle.iff_cases.specs.Check.{eightHundred, eightHundredAndOne, lastStop, checked}
 
 -- P3: the row of a first line of those days
@@ -34,9 +35,9 @@ fiveStops validity =
     ∷ (37 ∷ 100 ∷ 1 ∷ 1 ∷ 5 ∷ 0 ∷ 2 ∷ [])
     ∷ (validity
     ++ ((38 ∷ 0x49432020 ∷ 1 ∷ 5 ∷ 0 ∷ 0 ∷ 5 ∷ [])
-    ∷ (62 ∷ 0x41414120202020 ∷ 900 ∷ 0 ∷ 0 ∷ 0 ∷ 6 ∷ [])
-    ∷ (46 ∷ 0x42424220202020 ∷ 1000 ∷ 0 ∷ 0 ∷ 0 ∷ 7 ∷ [])
-    ∷ (46 ∷ 0x43434320202020 ∷ 1100 ∷ 0 ∷ 0 ∷ 0 ∷ 8 ∷ [])
+    ∷ (62 ∷ AAA ∷ 900 ∷ 0 ∷ 0 ∷ 0 ∷ 6 ∷ [])
+    ∷ (46 ∷ BBB ∷ 1000 ∷ 0 ∷ 0 ∷ 0 ∷ 7 ∷ [])
+    ∷ (46 ∷ CCC ∷ 1100 ∷ 0 ∷ 0 ∷ 0 ∷ 8 ∷ [])
     ∷ (46 ∷ 0x44444420202020 ∷ 1200 ∷ 0 ∷ 0 ∷ 0 ∷ 9 ∷ [])
     ∷ (60 ∷ 0x45454520202020 ∷ 1300 ∷ 0 ∷ 0 ∷ 0 ∷ 10 ∷ [])
     ∷ []))
@@ -61,9 +62,9 @@ explicitCompany = 45 ∷ 100 ∷ 0x2A202020 ∷ 0x2A2020 ∷ 0x2A202020 ∷ 10 �
 abbrev explicitOthers : Row
 explicitOthers = 45 ∷ 0x2A2020 ∷ 0x49432020 ∷ 200 ∷ 0x49432020 ∷ 20 ∷ 1 ∷ []
 
--- P1 to P12
-abbrev pub settled : List Claim
-settled =
+-- P1 to P4
+abbrev pub spans : List Claim
+spans =
     -- 13122015 to 10122016 is 364 days
     claim "P1" (span 13122015 10122016) 364 ∷
     -- 28091997 to 23051998 is 238
@@ -83,6 +84,15 @@ settled =
     claim "P4: 29022000" (dayOf 29022000) (Day 146156) ∷
     claim "P4: 29022000 is a day" (isDay (dayOf 29022000)) true ∷
     claim "P4: 29021900" (dayOf 29021900) NotADay ∷
+    []
+
+pub spans-hold : Hold spans
+unfolding opened
+spans-hold = (refl, (refl, (refl, (refl, (refl, (refl, (refl, (refl, (refl, (refl, (refl, (refl, (refl, tt)))))))))))))
+
+-- P5 to P8
+abbrev pub clocks : List Claim
+clocks =
     -- 0000 is 0, 2500 is 1500, 9959 is 5999; 9960 is refused; 9999 is none
     claim "P5: 0000" (minutesOf 0) (Minutes 0) ∷
     claim "P5: 2500" (minutesOf 2500) (Minutes 1500) ∷
@@ -97,16 +107,34 @@ settled =
     -- arrival 2350, departure 0005 a day later, same zone and hours: gap 15
     claim "P8: zone +01" (gapOf (referenceOf (record { 0 = pos 1430 }) false 1) 0 (referenceOf (record { 0 = pos 5 }) false 1) 1) (pos 15) ∷
     claim "P8: zone -01" (gapOf (referenceOf (record { 0 = pos 1430 }) true 1) 0 (referenceOf (record { 0 = pos 5 }) true 1) 1) (pos 15) ∷
+    []
+
+pub clocks-hold : Hold clocks
+unfolding opened
+clocks-hold = (refl, (refl, (refl, (refl, (refl, (refl, (refl, (refl, (refl, (refl, tt))))))))))
+
+-- P9
+abbrev pub covers : List Claim
+covers =
     -- five stops: 001-004 with 004-005 covers
-    claim "P9: 001-004 with 004-005" (legs from1To4And4To5) true ∷
+    claim "P9: 001-004 with 004-005" (legs reachOf from1To4And4To5) true ∷
     claim "P9: its `-` records cover the four legs" (covered 4 (ofKind dash from1To4And4To5)) true ∷
     -- 001-003 with 004-005 lacks leg 3
-    claim "P9: 001-003 with 004-005" (legs from1To3And4To5) false ∷
+    claim "P9: 001-003 with 004-005" (legs reachOf from1To3And4To5) false ∷
     claim "P9: leg 3 lies in none" (covering 3 (ofKind dash from1To3And4To5)) 0 ∷
     claim "P9: leg 2 lies in one, leg 4 too" (covering 2 (ofKind dash from1To3And4To5) + covering 4 (ofKind dash from1To3And4To5)) 2 ∷
     -- 001-004 with 003-005 has it twice
-    claim "P9: 001-004 with 003-005" (legs from1To4And3To5) false ∷
+    claim "P9: 001-004 with 003-005" (legs reachOf from1To4And3To5) false ∷
     claim "P9: leg 3 lies in two" (covering 3 (ofKind dash from1To4And3To5)) 2 ∷
+    []
+
+pub covers-hold : Hold covers
+unfolding opened
+covers-hold = (refl, (refl, (refl, (refl, (refl, (refl, (refl, tt)))))))
+
+-- P10 to P12
+abbrev pub changes : List Claim
+changes =
     -- station time 99: gap 98 No, 99 Unsettled. XCHANGES 099: gap 99 Yes
     claim "P10: gap 98" (core (pos 98) NoPair 1 NoBest 99) (NoShort (pos 98) FromStations 99) ∷
     claim "P10: gap 99" (core (pos 99) NoPair 1 NoBest 99) (Unsettled (pos 99) FromStations 99) ∷
@@ -122,6 +150,15 @@ settled =
     claim "P12: 8 last" (best NoBest (explicitOthers ∷ explicitCompany ∷ [])) (BestRow 8 10) ∷
     []
 
-pub settled-hold : Hold settled
+pub changes-hold : Hold changes
 unfolding opened
-settled-hold = (refl, (refl, (refl, (refl, (refl, (refl, (refl, (refl, (refl, (refl, (refl, (refl, (refl, (refl, (refl, (refl, (refl, (refl, (refl, (refl, (refl, (refl, (refl, (refl, (refl, (refl, (refl, (refl, (refl, (refl, (refl, (refl, (refl, (refl, (refl, (refl, (refl, (refl, (refl, (refl, tt))))))))))))))))))))))))))))))))))))))))
+changes-hold = (refl, (refl, (refl, (refl, (refl, (refl, (refl, (refl, (refl, (refl, tt))))))))))
+
+-- P1 to P12
+abbrev pub settled : List Claim
+settled = spans ++ (clocks ++ (covers ++ changes))
+
+pub settled-hold : Hold settled
+settled-hold =
+    both-hold spans (clocks ++ (covers ++ changes)) spans-hold
+    (both-hold clocks (covers ++ changes) clocks-hold (both-hold covers changes covers-hold changes-hold))

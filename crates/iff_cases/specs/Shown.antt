@@ -1,11 +1,17 @@
 -- Answers as document 01 shows them: days and services, or number, file, ordinal and line.
-use Prim.Native.Nat.{ℕ}
+use Prim.Native.Nat.{ℕ, _*_}
 use Prim.Native.String.{String}
-use mathlib.Core.List.{List}
+use mathlib.Core.List.{List, [], _∷_}
 use Rattle.iff.specs.Files.{PerFile, perFile, fileAt}
 use Rattle.iff.specs.Refusals.{number, ordinal, lineAt}
-use Rattle.iff.specs.declared.Test.{Test}
-use Rattle.iff.specs.declared.Test.the-variants.{Passes, Fails}
+use Rattle.iff.specs.Tables.{rowWidth}
+use Rattle.iff.specs.declared.RowFile.{RowFile}
+use Rattle.iff.specs.declared.RowFile.the-variants.{Company, Country, Trnsmode, Stations}
+use Rattle.iff.specs.declared.GroupFile.{GroupFile}
+use Rattle.iff.specs.declared.GroupFile.the-variants.{Timezone, Footnote, Changes, Xfootnote, Xchanges}
+use Rattle.iff.specs.declared.File.{File}
+use Rattle.iff.specs.declared.File.the-variants.{Delivery, Rows, Groups, Timetbls}
+use Rattle.iff.specs.declared.Place.{Place}
 use Rattle.iff.specs.declared.Answer.{Answer}
 use Rattle.iff.specs.declared.Answer.the-variants.{Accepted, Refused}
 use Rattle.iff_rules.specs.Load.{loadAnswer}
@@ -19,10 +25,9 @@ abbrev pub shown : Answer → Shown
 shown (Accepted days services) = accepted days services
 shown (Refused r p) = refused (number r) (fileAt p) (ordinal p) (lineAt p)
 
--- a refusal's number, 0 where there is none
-abbrev pub testNumber : Test → ℕ
-testNumber Passes = 0
-testNumber (Fails r) = number r
+-- a place: file, ordinal and line
+abbrev pub place : Place → List ℕ
+place p = fileAt p ∷ ordinal p ∷ lineAt p ∷ []
 
 -- "The eleven files", "Read in this order": a place's file, from 1
 abbrev pub DELIVERY : ℕ
@@ -58,9 +63,32 @@ XFOOTNOTE = 10
 abbrev pub XCHANGES : ℕ
 XCHANGES = 11
 
--- tables of 980 words each: room for 70 lines of any file at the least
+-- the same in words, for labels
+abbrev pub rowFile : RowFile → String
+rowFile Company = "COMPANY"
+rowFile Country = "COUNTRY"
+rowFile Trnsmode = "TRNSMODE"
+rowFile Stations = "STATIONS"
+
+abbrev pub groupFile : GroupFile → String
+groupFile Timezone = "TIMEZONE"
+groupFile Footnote = "FOOTNOTE"
+groupFile Changes = "CHANGES"
+groupFile Xfootnote = "XFOOTNOTE"
+groupFile Xchanges = "XCHANGES"
+
+abbrev pub file : File → String
+file Delivery = "DELIVERY"
+file (Rows f) = rowFile f
+file (Groups f) = groupFile f
+file Timetbls = "TIMETBLS"
+
+-- the words of a table with room for n lines
+abbrev pub roomFor : ℕ → File → ℕ
+roomFor n f = n * rowWidth f
+
 abbrev pub roomy : PerFile ℕ
-roomy = perFile (λ f. 980)
+roomy = perFile (roomFor 70)
 
 -- a load of eleven files into such tables
 abbrev pub loadOf : PerFile (List ℕ) → Shown

@@ -12,3 +12,7 @@ textOf (l ∷ ls) = l ++ (13 ∷ 10 ∷ textOf ls)
 unfoldable pub linesOf : List String → List (List ℕ)
 linesOf [] = []
 linesOf (s ∷ ss) = bytes s ∷ linesOf ss
+
+-- both at once
+abbrev pub written : List String → List ℕ
+written ss = textOf (linesOf ss)

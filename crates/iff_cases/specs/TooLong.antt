@@ -7,11 +7,12 @@ use mathlib.Core.Bool.{Bool, true, false}
 use lib.ListN.{length, replicate}
 use lib.Dec.{leb}
 use borrow.Author.Tests.{lt-leb}
-use Rattle.iff.specs.Lists.{has}
 use Rattle.iff.specs.Refusals.{orElse, firstFault, answer}
 use Rattle.iff.specs.Files.{PerFile, of, inOrder, limit}
 use Rattle.iff.specs.declared.File.{File}
-use Rattle.iff.specs.declared.File.the-variants.{Delivery, Company, Country, Trnsmode, Timezone, Stations, Footnote, Timetbls, Changes, Xfootnote, Xchanges}
+use Rattle.iff.specs.declared.RowFile.the-variants.{Company, Country, Trnsmode, Stations}
+use Rattle.iff.specs.declared.GroupFile.the-variants.{Timezone, Footnote, Changes, Xfootnote, Xchanges}
+use Rattle.iff.specs.declared.File.the-variants.{Delivery, Rows, Groups, Timetbls}
 use Rattle.iff.specs.declared.Reason.the-variants.{TooLong}
 use Rattle.iff.specs.declared.Place.the-variants.{At}
 use Rattle.iff.specs.declared.Verdict.{Verdict}
@@ -19,7 +20,9 @@ use Rattle.iff.specs.declared.Verdict.the-variants.{Fault}
 use Rattle.iff.specs.declared.Answer.the-variants.{Refused}
 use Rattle.iff.specs.Lines.{lines}
 use Rattle.iff_rules.specs.Rows.{rowsOfFiles, contextOf}
-use Rattle.iff_rules.specs.Load.{lengthVerdict, present, absenceVerdict, roomVerdict, overFiles, contentsVerdict, loadVerdict, loadAnswer, loadTable}
+use Rattle.iff_rules.specs.References.{names}
+use Rattle.iff_rules.specs.Load.{lengthVerdict, presentIn, absenceVerdict, roomVerdict, overFiles, contentsVerdict, loadVerdict, loadAnswer}
+use Rattle.iff_rules.specs.Load.{loadTable}
 use Rattle.iff_rules.specs.Sound.{sound, rowsOfTables}
 use Rattle.iff_desk.specs.Parts.{isOneBlock}
 use Rattle.iff_desk.specs.Amend.{placeOf, editedLength, amendVerdict}
@@ -50,7 +53,7 @@ too-long F R earlier f later e w long =
     ap
     (λ (v : Verdict). orElse v
     (firstFault
-    (overFiles (λ f. absenceVerdict (present (F .xchanges)) f (of F f))
+    (overFiles (absenceVerdict (presentIn F))
     ∷ overFiles (λ f. roomVerdict f (length (lines (of F f))) (of R f))
     ∷ contentsVerdict (contextOf (rowsOfFiles F)) (rowsOfFiles F) F
     ∷ [])))
@@ -59,7 +62,10 @@ too-long F R earlier f later e w long =
 pub too-long-answer : (F : PerFile (List ℕ)) (R : PerFile ℕ) (earlier : List File) (f : File) (later : List File)
     → inOrder ≡ earlier ++ (f ∷ later) → Within F earlier → within F f ≡ false → loadAnswer F R ≡ Refused TooLong (At f 0 0)
 unfolding loadAnswer
-too-long-answer F R earlier f later e w long = ap (λ (v : Verdict). answer v (contextOf (rowsOfFiles F) .days) (length (contextOf (rowsOfFiles F) .services))) (too-long F R earlier f later e w long)
+too-long-answer F R earlier f later e w long =
+    ap
+    (λ (v : Verdict). answer v (contextOf (rowsOfFiles F) .form .days) (length (contextOf (rowsOfFiles F) .keys Timetbls)))
+    (too-long F R earlier f later e w long)
 
 -- "A refused load zeroes every table"
 pub too-long-table : (F : PerFile (List ℕ)) (R : PerFile ℕ) (earlier : List File) (f : File) (later : List File)
@@ -75,25 +81,31 @@ longer F f h = lt-leb (length (of F f)) limit h
 pub delivery-too-long : (F : PerFile (List ℕ)) (R : PerFile ℕ) → limit < length (F .delivery) → loadVerdict F R ≡ Fault TooLong (At Delivery 0 0)
 delivery-too-long F R h =
     too-long F R [] Delivery
-    (Company ∷ Country ∷ Trnsmode ∷ Timezone ∷ Stations ∷ Footnote ∷ Timetbls ∷ Changes ∷ Xfootnote ∷ Xchanges ∷ [])
+    (Rows Company ∷ Rows Country ∷ Rows Trnsmode ∷ Groups Timezone ∷ Rows Stations ∷ Groups Footnote ∷ Timetbls ∷ Groups Changes
+    ∷ Groups Xfootnote ∷ Groups Xchanges ∷ [])
     refl tt (longer F Delivery h)
 
 -- TIMETBLS, the seven before it within the bound
+abbrev beforeTimetbls : List File
+beforeTimetbls =
+    Delivery ∷ Rows Company ∷ Rows Country ∷ Rows Trnsmode ∷ Groups Timezone ∷ Rows Stations ∷ Groups Footnote ∷ []
+
 pub timetbls-too-long : (F : PerFile (List ℕ)) (R : PerFile ℕ)
-    → Within F (Delivery ∷ Company ∷ Country ∷ Trnsmode ∷ Timezone ∷ Stations ∷ Footnote ∷ [])
+    → Within F beforeTimetbls
     → limit < length (F .timetbls) → loadVerdict F R ≡ Fault TooLong (At Timetbls 0 0)
 timetbls-too-long F R w h =
     too-long F R
-    (Delivery ∷ Company ∷ Country ∷ Trnsmode ∷ Timezone ∷ Stations ∷ Footnote ∷ [])
+    beforeTimetbls
     Timetbls
-    (Changes ∷ Xfootnote ∷ Xchanges ∷ [])
+    (Groups Changes ∷ Groups Xfootnote ∷ Groups Xchanges ∷ [])
     refl w (longer F Timetbls h)
 
 -- AN AMENDMENT: "then as a load of the edited text: 1 and 2 over TIMETBLS", after 16, 11 and 12
 pub amendment-too-long : (T : PerFile (List ℕ)) (s : ℕ) (b : List ℕ)
-    → sound T ≡ true → isOneBlock s (lines b) ≡ true → has s (contextOf (rowsOfTables T) .services) ≡ true
+    → sound T ≡ true → isOneBlock s (lines b) ≡ true → names (contextOf (rowsOfTables T)) Timetbls s ≡ true
     → limit < editedLength (contextOf (rowsOfTables T)) (placeOf s (rowsOfTables T .timetbls)) (rowsOfTables T .timetbls) b
     → amendVerdict T s b ≡ Fault TooLong (At Timetbls 0 0)
 unfolding amendVerdict firstFault
 amendment-too-long T s b ok one there h =
-    rw (ok, one, there, lt-leb (editedLength (contextOf (rowsOfTables T)) (placeOf s (rowsOfTables T .timetbls)) (rowsOfTables T .timetbls) b) limit h)
+    let R = rowsOfTables T in
+    rw (ok, one, there, lt-leb (editedLength (contextOf R) (placeOf s (R .timetbls)) (R .timetbls) b) limit h)

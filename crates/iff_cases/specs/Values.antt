@@ -2,11 +2,14 @@
 use Prim.{tt}
 use mathlib.Core.Path.{refl}
 use mathlib.Core.List.{List, [], _∷_, _++_}
-use Rattle.iff.specs.declared.File.the-variants.{Delivery, Company, Country, Trnsmode, Timezone, Stations, Footnote, Timetbls, Changes, Xfootnote, Xchanges}
+use Rattle.iff.specs.declared.RowFile.the-variants.{Company, Country, Trnsmode, Stations}
+use Rattle.iff.specs.declared.GroupFile.the-variants.{Timezone, Footnote, Changes, Xfootnote, Xchanges}
+use Rattle.iff.specs.declared.File.the-variants.{Delivery, Rows, Groups, Timetbls}
 use Rattle.iff_cases.specs.Claims.{Claim, claim, Hold}
 use Rattle.iff_cases.specs.Opened.{opened}
 use Rattle.iff_cases.specs.Delivery.{small, put, insert, at, edit, files, headed, header}
-use Rattle.iff_cases.specs.Shown.{accepted, refused, DELIVERY, COMPANY, COUNTRY, TRNSMODE, TIMEZONE, STATIONS, FOOTNOTE, TIMETBLS, CHANGES, XFOOTNOTE, XCHANGES, load, loadOf, Shown, shown}
+use Rattle.iff_cases.specs.Shown.{accepted, refused, DELIVERY, COMPANY, COUNTRY, TRNSMODE, TIMEZONE, STATIONS, FOOTNOTE, TIMETBLS, CHANGES}
+use Rattle.iff_cases.specs.Shown.{XFOOTNOTE, XCHANGES, roomFor, load, loadOf, Shown, shown}
 use Prim.Native.Nat.{ℕ, zero, suc, _+_, _/_, _%_}
 use Prim.Native.String.{String}
 use lib.ListN.{replicate}
@@ -25,19 +28,27 @@ numbered (suc n) k = (twoDigits k ++ (bytes "  ," ++ (twoDigits k ++ replicate 2
 
 -- the small delivery with n more modes, and some lines behind them
 abbrev modes : ℕ → List (List ℕ) → PerFile (List ℕ)
-modes n more = at Trnsmode (λ s. s ++ textOf (numbered n 10 ++ more)) (files small)
+modes n more = at (Rows Trnsmode) (λ s. s ++ textOf (numbered n 10 ++ more)) (files small)
 
 -- one service of n stops between its first and its last, and no CHANGES
-abbrev stops : ℕ → PerFile (List ℕ)
-stops n =
-    at Changes (λ s. [])
-    (at Timetbls
-    (λ s. textOf (linesOf (header ∷ "#00000007" ∷ "%100,00012,       ,000,999,                              " ∷ "-00001,000,999" ∷ "&BOAT,000,999" ∷ ">AAA    ,0330" ∷ []) ++ (replicate n (bytes ".BBB    ,0400") ++ (bytes "<AAA    ,2600" ∷ []))))
-    (files small))
+abbrev longService : ℕ → List (List ℕ)
+longService n =
+    linesOf
+    (header
+    ∷ "#00000007"
+    ∷ "%100,00012,       ,000,999,                              "
+    ∷ "-00001,000,999"
+    ∷ "&BOAT,000,999"
+    ∷ ">AAA    ,0330"
+    ∷ [])
+    ++ (replicate n (bytes ".BBB    ,0400") ++ (bytes "<AAA    ,2600" ∷ []))
 
--- a load into tables of 7,100 words, 1,014 lines of TIMETBLS
+abbrev stops : ℕ → PerFile (List ℕ)
+stops n = at (Groups Changes) (λ s. []) (at Timetbls (λ s. textOf (longService n)) (files small))
+
+-- a load into tables with room for 1,014 lines
 abbrev loadWide : PerFile (List ℕ) → Shown
-loadWide F = shown (loadAnswer F (perFile (λ f. 7100)))
+loadWide F = shown (loadAnswer F (perFile (roomFor 1014)))
 
 -- the first line of a delivery of one day
 abbrev header1 : String
@@ -47,21 +58,25 @@ header1 = "@100,01011615,01011615,0001,Cases                         "
 abbrev pub figures : List Claim
 figures =
     -- "Fields not code, free text or unread are numbers, all digits."
-    claim "first line's company" (load (edit Delivery (put 1 "@1 0,01011615,10011615,0001,Cases                         "))) (refused 5 DELIVERY 0 1) ∷
-    claim "first line's version" (load (edit Delivery (put 1 "@100,01011615,10011615,00.1,Cases                         "))) (refused 5 DELIVERY 0 1) ∷
-    claim "a day turn" (load (edit Company (put 2 "100,FERRY     ,Ferry Lines                   ,04 0"))) (refused 5 COMPANY 0 2) ∷
-    claim "inland" (load (edit Country (put 2 "NL  , ,Netherlands                   "))) (refused 5 COUNTRY 0 2) ∷
-    claim "a zone" (load (edit Timezone (put 2 "#00 0"))) (refused 5 TIMEZONE 0 2) ∷
-    claim "a period's hours" (load (edit Timezone (put 3 "+0 ,01011615,05011615"))) (refused 5 TIMEZONE 0 3) ∷
-    claim "a change flag" (load (edit Stations (put 2 " ,AAA    ,05,  ,NL  ,0000,  ,000000,000000,Pier                          "))) (refused 5 STATIONS 0 2) ∷
-    claim "a change time" (load (edit Stations (put 3 "0,BBB    ,1A,  ,NL  ,0001,  ,000000,000000,Quay                          "))) (refused 5 STATIONS 0 3) ∷
-    claim "a footnote's number" (load (edit Footnote (put 4 "#0000B"))) (refused 5 FOOTNOTE 0 4) ∷
+    claim "first line's company" (load (edit Delivery (put 1 "@1 0,01011615,10011615,0001,Cases                         ")))
+    (refused 5 DELIVERY 0 1) ∷
+    claim "first line's version" (load (edit Delivery (put 1 "@100,01011615,10011615,00.1,Cases                         ")))
+    (refused 5 DELIVERY 0 1) ∷
+    claim "a day turn" (load (edit (Rows Company) (put 2 "100,FERRY     ,Ferry Lines                   ,04 0"))) (refused 5 COMPANY 0 2) ∷
+    claim "inland" (load (edit (Rows Country) (put 2 "NL  , ,Netherlands                   "))) (refused 5 COUNTRY 0 2) ∷
+    claim "a zone" (load (edit (Groups Timezone) (put 2 "#00 0"))) (refused 5 TIMEZONE 0 2) ∷
+    claim "a period's hours" (load (edit (Groups Timezone) (put 3 "+0 ,01011615,05011615"))) (refused 5 TIMEZONE 0 3) ∷
+    claim "a change flag" (load (edit (Rows Stations) (put 2 " ,AAA    ,05,  ,NL  ,0000,  ,000000,000000,Pier                          ")))
+    (refused 5 STATIONS 0 2) ∷
+    claim "a change time" (load (edit (Rows Stations) (put 3 "0,BBB    ,1A,  ,NL  ,0001,  ,000000,000000,Quay                          ")))
+    (refused 5 STATIONS 0 3) ∷
+    claim "a footnote's number" (load (edit (Groups Footnote) (put 4 "#0000B"))) (refused 5 FOOTNOTE 0 4) ∷
     claim "a service's number" (load (edit Timetbls (put 12 "#0000000A"))) (refused 5 TIMETBLS 2 1) ∷
     claim "a train's number" (load (edit Timetbls (put 3 "%100,0001x,NACHT  ,000,999,Night boat                    "))) (refused 5 TIMETBLS 1 2) ∷
     claim "a first stop" (load (edit Timetbls (put 4 "-00001,0 1,999"))) (refused 5 TIMETBLS 1 3) ∷
     claim "a platform's footnote" (load (edit Timetbls (put 8 "?1    ,     ,0000 "))) (refused 5 TIMETBLS 1 7) ∷
-    claim "a pair's service" (load (edit Changes (put 3 "-0000000 ,00000008,01"))) (refused 5 CHANGES 0 3) ∷
-    claim "an exception's time" (load (edit Xchanges (put 3 "-100,*   ,*  ,*   ,02 ,00001"))) (refused 5 XCHANGES 0 3) ∷
+    claim "a pair's service" (load (edit (Groups Changes) (put 3 "-0000000 ,00000008,01"))) (refused 5 CHANGES 0 3) ∷
+    claim "an exception's time" (load (edit (Groups Xchanges) (put 3 "-100,*   ,*  ,*   ,02 ,00001"))) (refused 5 XCHANGES 0 3) ∷
     []
 
 pub figures-hold : Hold figures
@@ -72,17 +87,20 @@ figures-hold = (refl, (refl, (refl, (refl, (refl, (refl, (refl, (refl, (refl, (r
 abbrev pub codes : List Claim
 codes =
     -- any digit is a change flag: 0 forbids, all others allow
-    claim "flag 9" (load (edit Stations (put 2 "9,AAA    ,05,  ,NL  ,0000,  ,000000,000000,Pier                          "))) (accepted 10 3) ∷
+    claim "flag 9" (load (edit (Rows Stations) (put 2 "9,AAA    ,05,  ,NL  ,0000,  ,000000,000000,Pier                          "))) (accepted 10 3) ∷
     -- "Codes (station, mode, country, attribute) are not all blank"
-    claim "a blank country" (load (edit Country (put 2 "    ,1,Netherlands                   "))) (refused 5 COUNTRY 0 2) ∷
-    claim "a blank mode" (load (edit Trnsmode (put 3 "    ,Ferry                         "))) (refused 5 TRNSMODE 0 3) ∷
-    claim "a mode of one byte in the field's midst" (load (edit Trnsmode (insert 4 "  X ,Extra                         "))) (accepted 10 3) ∷
-    claim "a blank short name" (load (edit Stations (put 4 "1,       ,99,  ,NL  ,0000,  ,000000,000000,Terminal                      "))) (refused 5 STATIONS 0 4) ∷
+    claim "a blank country" (load (edit (Rows Country) (put 2 "    ,1,Netherlands                   "))) (refused 5 COUNTRY 0 2) ∷
+    claim "a blank mode" (load (edit (Rows Trnsmode) (put 3 "    ,Ferry                         "))) (refused 5 TRNSMODE 0 3) ∷
+    claim "a mode of one byte in the field's midst" (load (edit (Rows Trnsmode) (insert 4 "  X ,Extra                         "))) (accepted 10 3) ∷
+    claim "a blank short name" (load (edit (Rows Stations) (put 4 "1,       ,99,  ,NL  ,0000,  ,000000,000000,Terminal                      ")))
+    (refused 5 STATIONS 0 4) ∷
     -- blank is 5, and not a reference that is not met
-    claim "a station's country blank" (load (edit Stations (put 2 "1,AAA    ,05,  ,    ,0000,  ,000000,000000,Pier                          "))) (refused 5 STATIONS 0 2) ∷
+    claim "a station's country blank"
+    (load (edit (Rows Stations) (put 2 "1,AAA    ,05,  ,    ,0000,  ,000000,000000,Pier                          ")))
+    (refused 5 STATIONS 0 2) ∷
     claim "a blank attribute" (load (edit Timetbls (put 6 "*    ,001,002,00001"))) (refused 5 TIMETBLS 1 5) ∷
     claim "a passed station blank" (load (edit Timetbls (put 9 ";       "))) (refused 5 TIMETBLS 1 8) ∷
-    claim "a blank mode in XCHANGES" (load (edit Xchanges (put 6 "-200,    ,*  ,*   ,999,00001"))) (refused 5 XCHANGES 0 6) ∷
+    claim "a blank mode in XCHANGES" (load (edit (Groups Xchanges) (put 6 "-200,    ,*  ,*   ,999,00001"))) (refused 5 XCHANGES 0 6) ∷
     []
 
 pub codes-hold : Hold codes
@@ -93,15 +111,21 @@ codes-hold = (refl, (refl, (refl, (refl, (refl, (refl, (refl, (refl, (refl, tt))
 abbrev pub texts : List Claim
 texts =
     -- "Free text may be blank: names, descriptions, variant, platforms, company code."
-    claim "a blank company code and name" (load (edit Company (put 2 "100,          ,                              ,0400"))) (accepted 10 3) ∷
-    claim "a blank country name" (load (edit Country (put 2 "NL  ,1,                              "))) (accepted 10 3) ∷
-    claim "a blank mode's text" (load (edit Trnsmode (put 2 "IC  ,                              "))) (accepted 10 3) ∷
-    claim "a blank station name" (load (edit Stations (put 2 "1,AAA    ,05,  ,NL  ,0000,  ,000000,000000,                              "))) (accepted 10 3) ∷
+    claim "a blank company code and name" (load (edit (Rows Company) (put 2 "100,          ,                              ,0400"))) (accepted 10 3) ∷
+    claim "a blank country name" (load (edit (Rows Country) (put 2 "NL  ,1,                              "))) (accepted 10 3) ∷
+    claim "a blank mode's text" (load (edit (Rows Trnsmode) (put 2 "IC  ,                              "))) (accepted 10 3) ∷
+    claim "a blank station name" (load (edit (Rows Stations) (put 2 "1,AAA    ,05,  ,NL  ,0000,  ,000000,000000,                              ")))
+    (accepted 10 3) ∷
     claim "a blank first line's text" (load (headed "@100,01011615,10011615,0001,                              " small)) (accepted 10 3) ∷
-    claim "blank variant and name, blank platforms" (load (at Timetbls (put 8 "?     ,     ,00001") (edit Timetbls (put 3 "%100,00012,       ,000,999,                              ")))) (accepted 10 3) ∷
+    claim "blank variant and name, blank platforms"
+    (load (at Timetbls (put 8 "?     ,     ,00001") (edit Timetbls (put 3 "%100,00012,       ,000,999,                              "))))
+    (accepted 10 3) ∷
     -- "STATIONS 14-15, 27-28, x and y are not read; any allowed bytes pass."
-    claim "unread columns" (load (edit Stations (put 2 "1,AAA    ,05,~,,NL  ,0000, ÿ,x:'!,.,\u{a0}¡-;?@,Pier                          "))) (accepted 10 3) ∷
-    claim "a byte that is not allowed in an unread column is 4" (load (edit Stations (put 2 "1,AAA    ,05,0\u{7f},NL  ,0000,  ,000000,000000,Pier                          "))) (refused 4 STATIONS 0 2) ∷
+    claim "unread columns" (load (edit (Rows Stations) (put 2 "1,AAA    ,05,~,,NL  ,0000, ÿ,x:'!,.,\u{a0}¡-;?@,Pier                          ")))
+    (accepted 10 3) ∷
+    claim "a byte that is not allowed in an unread column is 4"
+    (load (edit (Rows Stations) (put 2 "1,AAA    ,05,0\u{7f},NL  ,0000,  ,000000,000000,Pier                          ")))
+    (refused 4 STATIONS 0 2) ∷
     []
 
 pub texts-hold : Hold texts
@@ -112,19 +136,19 @@ texts-hold = (refl, (refl, (refl, (refl, (refl, (refl, (refl, (refl, tt))))))))
 abbrev pub numbers : List Claim
 numbers =
     -- "Company number is 1 or more."
-    claim "company 000" (load (edit Company (insert 4 "000,NONE      ,Nobody                        ,0000"))) (refused 5 COMPANY 0 4) ∷
-    claim "company 001" (load (edit Company (insert 4 "001,ONE       ,Somebody                      ,0000"))) (accepted 10 3) ∷
+    claim "company 000" (load (edit (Rows Company) (insert 4 "000,NONE      ,Nobody                        ,0000"))) (refused 5 COMPANY 0 4) ∷
+    claim "company 001" (load (edit (Rows Company) (insert 4 "001,ONE       ,Somebody                      ,0000"))) (accepted 10 3) ∷
     -- "Inland is 0 or 1."
-    claim "inland 0" (load (edit Country (put 2 "NL  ,0,Netherlands                   "))) (accepted 10 3) ∷
-    claim "inland 2" (load (edit Country (put 2 "NL  ,2,Netherlands                   "))) (refused 5 COUNTRY 0 2) ∷
+    claim "inland 0" (load (edit (Rows Country) (put 2 "NL  ,0,Netherlands                   "))) (accepted 10 3) ∷
+    claim "inland 2" (load (edit (Rows Country) (put 2 "NL  ,2,Netherlands                   "))) (refused 5 COUNTRY 0 2) ∷
     -- "Day turn is below 2400 with minutes below 60."
-    claim "turn 2359" (load (edit Company (put 3 "200,NIGHT     ,Night Trains                  ,2359"))) (accepted 10 3) ∷
-    claim "turn 2400" (load (edit Company (put 3 "200,NIGHT     ,Night Trains                  ,2400"))) (refused 5 COMPANY 0 3) ∷
-    claim "turn 0059" (load (edit Company (put 3 "200,NIGHT     ,Night Trains                  ,0059"))) (accepted 10 3) ∷
-    claim "turn 0060" (load (edit Company (put 3 "200,NIGHT     ,Night Trains                  ,0060"))) (refused 5 COMPANY 0 3) ∷
+    claim "turn 2359" (load (edit (Rows Company) (put 3 "200,NIGHT     ,Night Trains                  ,2359"))) (accepted 10 3) ∷
+    claim "turn 2400" (load (edit (Rows Company) (put 3 "200,NIGHT     ,Night Trains                  ,2400"))) (refused 5 COMPANY 0 3) ∷
+    claim "turn 0059" (load (edit (Rows Company) (put 3 "200,NIGHT     ,Night Trains                  ,0059"))) (accepted 10 3) ∷
+    claim "turn 0060" (load (edit (Rows Company) (put 3 "200,NIGHT     ,Night Trains                  ,0060"))) (refused 5 COMPANY 0 3) ∷
     -- "Possibility is 00, 01 or 02."
-    claim "possibility 02" (load (edit Changes (put 3 "-00000007,00000008,02"))) (accepted 10 3) ∷
-    claim "possibility 03" (load (edit Changes (put 3 "-00000007,00000008,03"))) (refused 5 CHANGES 0 3) ∷
+    claim "possibility 02" (load (edit (Groups Changes) (put 3 "-00000007,00000008,02"))) (accepted 10 3) ∷
+    claim "possibility 03" (load (edit (Groups Changes) (put 3 "-00000007,00000008,03"))) (refused 5 CHANGES 0 3) ∷
     []
 
 pub numbers-hold : Hold numbers
@@ -135,15 +159,15 @@ numbers-hold = (refl, (refl, (refl, (refl, (refl, (refl, (refl, (refl, (refl, (r
 abbrev pub wildcards : List Claim
 wildcards =
     -- "In XCHANGES a company or mode may be `*` followed by blanks."
-    claim "company `** `" (load (edit Xchanges (put 3 "-** ,*   ,*  ,*   ,020,00001"))) (refused 5 XCHANGES 0 3) ∷
-    claim "company ` * `" (load (edit Xchanges (put 3 "- * ,*   ,*  ,*   ,020,00001"))) (refused 5 XCHANGES 0 3) ∷
-    claim "company `1  `" (load (edit Xchanges (put 3 "-1  ,*   ,*  ,*   ,020,00001"))) (refused 5 XCHANGES 0 3) ∷
-    claim "to company `*0 `" (load (edit Xchanges (put 3 "-100,*   ,*0 ,*   ,020,00001"))) (refused 5 XCHANGES 0 3) ∷
+    claim "company `** `" (load (edit (Groups Xchanges) (put 3 "-** ,*   ,*  ,*   ,020,00001"))) (refused 5 XCHANGES 0 3) ∷
+    claim "company ` * `" (load (edit (Groups Xchanges) (put 3 "- * ,*   ,*  ,*   ,020,00001"))) (refused 5 XCHANGES 0 3) ∷
+    claim "company `1  `" (load (edit (Groups Xchanges) (put 3 "-1  ,*   ,*  ,*   ,020,00001"))) (refused 5 XCHANGES 0 3) ∷
+    claim "to company `*0 `" (load (edit (Groups Xchanges) (put 3 "-100,*   ,*0 ,*   ,020,00001"))) (refused 5 XCHANGES 0 3) ∷
     -- ` *  ` is a code like any other, and TRNSMODE has none such
-    claim "mode ` *  `" (load (edit Xchanges (put 3 "-100, *  ,*  ,*   ,020,00001"))) (refused 9 XCHANGES 0 3) ∷
-    claim "all four wild" (load (edit Xchanges (put 3 "-*  ,*   ,*  ,*   ,020,00001"))) (accepted 10 3) ∷
+    claim "mode ` *  `" (load (edit (Groups Xchanges) (put 3 "-100, *  ,*  ,*   ,020,00001"))) (refused 9 XCHANGES 0 3) ∷
+    claim "all four wild" (load (edit (Groups Xchanges) (put 3 "-*  ,*   ,*  ,*   ,020,00001"))) (accepted 10 3) ∷
     -- the wildcard stays one where TRNSMODE has a code `*`
-    claim "a mode `*`" (load (edit Trnsmode (insert 4 "*   ,Star                          "))) (accepted 10 3) ∷
+    claim "a mode `*`" (load (edit (Rows Trnsmode) (insert 4 "*   ,Star                          "))) (accepted 10 3) ∷
     []
 
 pub wildcards-hold : Hold wildcards
@@ -186,40 +210,46 @@ days =
     claim "first day 00" (load (edit Delivery (put 1 "@100,00011615,10011615,0001,Cases                         "))) (refused 5 DELIVERY 0 1) ∷
     claim "last day's month 13" (load (edit Delivery (put 1 "@100,01011615,01131615,0001,Cases                         "))) (refused 5 DELIVERY 0 1) ∷
     claim "last day's month 00" (load (edit Delivery (put 1 "@100,01011615,01001615,0001,Cases                         "))) (refused 5 DELIVERY 0 1) ∷
-    claim "29 February of a year that is no leap year" (load (edit Timezone (put 4 "+02,06011615,29021615"))) (refused 5 TIMEZONE 0 4) ∷
-    claim "29 February of a leap year" (load (edit Timezone (put 4 "+02,06011615,29021616"))) (accepted 10 3) ∷
-    claim "30 February" (load (edit Timezone (put 4 "+02,06011615,30021616"))) (refused 5 TIMEZONE 0 4) ∷
-    claim "29 February 1700" (load (edit Timezone (put 4 "+02,06011615,29021700"))) (refused 5 TIMEZONE 0 4) ∷
-    claim "31 December" (load (edit Timezone (put 4 "+02,06011615,31121615"))) (accepted 10 3) ∷
-    claim "32 December" (load (edit Timezone (put 4 "+02,06011615,32121615"))) (refused 5 TIMEZONE 0 4) ∷
+    claim "29 February of a year that is no leap year" (load (edit (Groups Timezone) (put 4 "+02,06011615,29021615"))) (refused 5 TIMEZONE 0 4) ∷
+    claim "29 February of a leap year" (load (edit (Groups Timezone) (put 4 "+02,06011615,29021616"))) (accepted 10 3) ∷
+    claim "30 February" (load (edit (Groups Timezone) (put 4 "+02,06011615,30021616"))) (refused 5 TIMEZONE 0 4) ∷
+    claim "29 February 1700" (load (edit (Groups Timezone) (put 4 "+02,06011615,29021700"))) (refused 5 TIMEZONE 0 4) ∷
+    claim "31 December" (load (edit (Groups Timezone) (put 4 "+02,06011615,31121615"))) (accepted 10 3) ∷
+    claim "32 December" (load (edit (Groups Timezone) (put 4 "+02,06011615,32121615"))) (refused 5 TIMEZONE 0 4) ∷
     -- "years 1600 to 9999"
-    claim "31121599" (load (edit Timezone (put 6 "-01,31121599,09011615"))) (refused 5 TIMEZONE 0 6) ∷
-    claim "01011600" (load (edit Timezone (put 6 "-01,01011600,09011615"))) (accepted 10 3) ∷
-    claim "31129999" (load (edit Timezone (put 4 "+02,06011615,31129999"))) (accepted 10 3) ∷
+    claim "31121599" (load (edit (Groups Timezone) (put 6 "-01,31121599,14011615"))) (refused 5 TIMEZONE 0 6) ∷
+    claim "01011600" (load (edit (Groups Timezone) (put 6 "-01,01011600,14011615"))) (accepted 10 3) ∷
+    claim "31129999" (load (edit (Groups Timezone) (put 4 "+02,06011615,31129999"))) (accepted 10 3) ∷
     -- "first not after last"
-    claim "a period of one day" (load (edit Timezone (put 3 "+01,05011615,05011615"))) (accepted 10 3) ∷
-    claim "a period that ends before it begins" (load (edit Timezone (put 3 "+01,05011615,04011615"))) (refused 5 TIMEZONE 0 3) ∷
+    claim "a period of one day" (load (edit (Groups Timezone) (insert 5 "+01,05011616,05011616"))) (accepted 10 3) ∷
+    claim "a period that ends before it begins" (load (edit (Groups Timezone) (put 3 "+01,05011615,04011615"))) (refused 5 TIMEZONE 0 3) ∷
     -- compared as days, and not as numbers
-    claim "a period over the year's end" (load (edit Timezone (put 6 "-01,31121614,01011615"))) (accepted 10 3) ∷
-    claim "a delivery that ends before it begins" (load (edit Delivery (put 1 "@100,11011615,10011615,0001,Cases                         "))) (refused 5 DELIVERY 0 1) ∷
-    claim "a delivery of one day" (load (at Footnote (λ ls. header1 ∷ "#00001" ∷ "1" ∷ "#00002" ∷ "0" ∷ []) (at Xfootnote (λ ls. header1 ∷ "#00001" ∷ "1" ∷ "#00002" ∷ "0" ∷ []) (headed header1 small)))) (accepted 1 3) ∷
+    claim "a period over the year's end" (load (edit (Groups Timezone) (put 6 "-01,31121614,14011615"))) (accepted 10 3) ∷
+    claim "a delivery that ends before it begins" (load (edit Delivery (put 1 "@100,11011615,10011615,0001,Cases                         ")))
+    (refused 5 DELIVERY 0 1) ∷
+    claim "a delivery of one day"
+    (load
+    (at (Groups Footnote) (λ ls. header1 ∷ "#00001" ∷ "1" ∷ "#00002" ∷ "0" ∷ [])
+    (at (Groups Xfootnote) (λ ls. header1 ∷ "#00001" ∷ "1" ∷ "#00002" ∷ "0" ∷ []) (headed header1 small))))
+    (accepted 1 3) ∷
     []
 
 pub days-hold : Hold days
 unfolding opened
-days-hold = (refl, (refl, (refl, (refl, (refl, (refl, (refl, (refl, (refl, (refl, (refl, (refl, (refl, (refl, (refl, (refl, (refl, (refl, tt))))))))))))))))))
+days-hold =
+    (refl, (refl, (refl, (refl, (refl, (refl, (refl, (refl, (refl, (refl, (refl, (refl, (refl, (refl, (refl, (refl, (refl, (refl, tt))))))))))))))))))
 
 -- "Values": vectors
 abbrev pub marks : List Claim
 marks =
     -- "A wrong character in a vector is 5, in its first place 4."
-    claim "2 in a vector" (load (edit Footnote (put 3 "1111112111"))) (refused 5 FOOTNOTE 0 3) ∷
-    claim "2 in a vector's last place" (load (edit Xfootnote (put 5 "0001100002"))) (refused 5 XFOOTNOTE 0 5) ∷
-    claim "2 in a vector's first place" (load (edit Footnote (put 3 "2111111111"))) (refused 4 FOOTNOTE 0 3) ∷
-    claim "a blank in a vector's first place" (load (edit Xfootnote (put 3 " 111100000"))) (refused 4 XFOOTNOTE 0 3) ∷
+    claim "2 in a vector" (load (edit (Groups Footnote) (put 3 "1111112111"))) (refused 5 FOOTNOTE 0 3) ∷
+    claim "2 in a vector's last place" (load (edit (Groups Xfootnote) (put 5 "0001100002"))) (refused 5 XFOOTNOTE 0 5) ∷
+    claim "2 in a vector's first place" (load (edit (Groups Footnote) (put 3 "2111111111"))) (refused 4 FOOTNOTE 0 3) ∷
+    claim "a blank in a vector's first place" (load (edit (Groups Xfootnote) (put 3 " 111100000"))) (refused 4 XFOOTNOTE 0 3) ∷
     -- "one per day of validity"
-    claim "nine marks" (load (edit Footnote (put 5 "101010101"))) (refused 4 FOOTNOTE 0 5) ∷
-    claim "eleven marks" (load (edit Xfootnote (put 5 "00011000000"))) (refused 4 XFOOTNOTE 0 5) ∷
+    claim "nine marks" (load (edit (Groups Footnote) (put 5 "101010101"))) (refused 4 FOOTNOTE 0 5) ∷
+    claim "eleven marks" (load (edit (Groups Xfootnote) (put 5 "00011000000"))) (refused 4 XFOOTNOTE 0 5) ∷
     []
 
 pub marks-hold : Hold marks

@@ -11,7 +11,8 @@ use Rattle.iff.specs.Lists.{kept}
 use Rattle.iff.specs.Refusals.{orTest, firstTest, unless}
 use Rattle.iff.specs.Files.{PerFile}
 use Rattle.iff.specs.Times.{noTime, gapOf}
-use Rattle.iff.specs.Tables.{Row, word}
+use Rattle.iff.specs.Tables.{Row}
+use Rattle.iff.specs.Words.{named, fromService, toService, possibility, fromCompany, fromMode, toCompany, toMode, exceptionTime, exceptionFootnote, changeFlag, changeTime}
 use Rattle.iff.specs.declared.Reason.the-variants.{NoPeriod, NotSound}
 use Rattle.iff.specs.declared.Test.{Test}
 use Rattle.iff.specs.declared.Test.the-variants.{Passes, Fails}
@@ -28,6 +29,7 @@ use Rattle.iff_desk.specs.declared.Early.{Early}
 use Rattle.iff_desk.specs.declared.Early.the-variants.{SameService, FromRests, ToRests, StationsDiffer, NobodyAlights, NobodyBoards}
 use Rattle.iff_desk.specs.declared.Source.{Source}
 use Rattle.iff_desk.specs.declared.Source.the-variants.{FromChanges, FromStations, FromXchanges}
+use Rattle.iff_desk.specs.declared.Bar.the-variants.{Pair00, Flag0}
 use Rattle.iff_desk.specs.declared.Change.{Change}
 use Rattle.iff_desk.specs.declared.Change.the-variants.{ChangeRefused, NoBefore, NoBarred, NoShort, Yes, Unsettled}
 use Rattle.iff_desk.specs.declared.Pair.{Pair}
@@ -45,10 +47,10 @@ pub record Side : Type 0 where
 -- "CHANGES pair there"
 abbrev pub pairIn : List Row → Pair
 pairIn [] = NoPair
-pairIn (r ∷ rs) = Possibility (word r 3)
+pairIn (r ∷ rs) = Possibility (possibility r)
 
 unfoldable pub pairAt : PerFile (List Row) → ℕ → ℕ → ℕ → Pair
-pairAt R station a b = pairIn (kept (λ r. eqb (word r 1) a && eqb (word r 2) b) (drop 1 (groupOf station (R .changes))))
+pairAt R station a b = pairIn (kept (λ r. eqb (fromService r) a && eqb (toService r) b) (drop 1 (groupOf station (R .changes))))
 
 -- a key of an XCHANGES row fits: it is the wildcard, or the very company or mode
 abbrev pub fitsKey : ℕ → ℕ → ℕ → Bool
@@ -56,26 +58,26 @@ fitsKey any key k = eqb key any || eqb key k
 
 -- company and mode of a service on a leg
 abbrev pub companyOn : List Row → ℕ → ℕ
-companyOn rs k = word (recordOn percent k rs) 1
+companyOn rs k = named (recordOn percent k rs)
 
 abbrev pub modeOn : List Row → ℕ → ℕ
-modeOn rs k = word (recordOn ampersand k rs) 1
+modeOn rs k = named (recordOn ampersand k rs)
 
 -- "An XCHANGES row applies if its four keys fit A on leg i-1 and B on leg j and its vector has 1 on A's date."
 unfoldable pub applies : PerFile (List Row) → List Row → ℕ → List Row → ℕ → ℕ → Row → Bool
 applies R aRows k bRows m date r =
-    fitsKey anyCompany (word r 1) (companyOn aRows k)
-    && (fitsKey anyMode (word r 2) (modeOn aRows k)
-    && (fitsKey anyCompany (word r 3) (companyOn bRows m)
-    && (fitsKey anyMode (word r 4) (modeOn bRows m)
-    && marked (vectorOf (R .xfootnote) (word r 6)) (dayOn R date))))
+    fitsKey anyCompany (fromCompany r) (companyOn aRows k)
+    && (fitsKey anyMode (fromMode r) (modeOn aRows k)
+    && (fitsKey anyCompany (toCompany r) (companyOn bRows m)
+    && (fitsKey anyMode (toMode r) (modeOn bRows m)
+    && marked (vectorOf (R .xfootnote) (exceptionFootnote r)) (dayOn R date))))
 
 -- "Rank, desk: 8, 4, 2, 1 for an explicit from company, from mode, to company, to mode."
 abbrev pub explicit : ℕ → ℕ → ℕ → ℕ
 explicit any key points = cond (eqb key any) 0 points
 
 unfoldable pub rank : Row → ℕ
-rank r = explicit anyCompany (word r 1) 8 + explicit anyMode (word r 2) 4 + explicit anyCompany (word r 3) 2 + explicit anyMode (word r 4) 1
+rank r = explicit anyCompany (fromCompany r) 8 + explicit anyMode (fromMode r) 4 + explicit anyCompany (toCompany r) 2 + explicit anyMode (toMode r) 1
 
 -- "Highest rank wins, then the larger time."
 unfoldable pub better : Best → ℕ → ℕ → Best
@@ -84,7 +86,7 @@ better (BestRow h s) k t = cond (ltb h k) (BestRow k t) (cond (ltb k h) (BestRow
 
 unfoldable pub best : Best → List Row → Best
 best b [] = b
-best b (r ∷ rs) = best (better b (rank r) (word r 5)) rs
+best b (r ∷ rs) = best (better b (rank r) (exceptionTime r)) rs
 
 unfoldable pub bestAt : PerFile (List Row) → ℕ → List Row → ℕ → List Row → ℕ → ℕ → Best
 bestAt R station aRows k bRows m date = best NoBest (kept (applies R aRows k bRows m date) (drop 1 (groupOf station (R .xchanges))))
@@ -92,7 +94,8 @@ bestAt R station aRows k bRows m date = best NoBest (kept (applies R aRows k bRo
 -- THE VERDICT on a gap
 -- "Gap below needed: No. Otherwise Unsettled if .., else Yes."
 unfoldable pub settled : ℤ → Source → ℕ → Bool → Change
-settled gap source needed atTop = cond (ltZ gap (pos needed)) (NoShort gap source needed) (cond atTop (Unsettled gap source needed) (Yes gap source needed))
+settled gap source needed atTop =
+    cond (ltZ gap (pos needed)) (NoShort gap source needed) (cond atTop (Unsettled gap source needed) (Yes gap source needed))
 
 -- "best XCHANGES row; the station's change time": "Unsettled if needed is 99 from STATIONS or 999 from XCHANGES"
 unfoldable pub byTime : ℤ → Best → ℕ → Change
@@ -101,25 +104,25 @@ byTime gap NoBest stationTime = settled gap FromStations stationTime (eqb statio
 
 -- "first that applies: CHANGES pair there (00: No; 01 and 02: needed 0); flag 0: No; best XCHANGES row; the station's change time"
 unfoldable pub core : ℤ → Pair → ℕ → Best → ℕ → Change
-core gap (Possibility p) flag best time = cond (eqb p 0) (NoBarred gap FromChanges) (settled gap FromChanges 0 false)
-core gap NoPair flag best time = cond (eqb flag 0) (NoBarred gap FromStations) (byTime gap best time)
+core gap (Possibility p) flag best time = cond (eqb p 0) (NoBarred gap Pair00) (settled gap FromChanges 0 false)
+core gap NoPair flag best time = cond (eqb flag 0) (NoBarred gap Flag0) (byTime gap best time)
 
 -- "Then No, by the first that holds: same service and date; A doesn't run on leg i-1; B doesn't run on leg j; stations differ; nobody alights; nobody boards. Then 15."
-pub data Step : Type 0 where
-  stop : Early → Step
-  on : Step
+pub data Hurdle : Type 0 where
+  stop : Early → Hurdle
+  clear : Hurdle
 
-abbrev pub orStep : Step → Step → Step
-orStep (stop e) s = stop e
-orStep on s = s
+abbrev pub orHurdle : Hurdle → Hurdle → Hurdle
+orHurdle (stop e) s = stop e
+orHurdle clear s = s
 
-abbrev pub stopIf : Bool → Early → Step
+abbrev pub stopIf : Bool → Early → Hurdle
 stopIf true e = stop e
-stopIf false e = on
+stopIf false e = clear
 
-unfoldable pub firstStep : List Step → Step
-firstStep [] = on
-firstStep (s ∷ ss) = orStep s (firstStep ss)
+unfoldable pub firstHurdle : List Hurdle → Hurdle
+firstHurdle [] = clear
+firstHurdle (s ∷ ss) = orHurdle s (firstHurdle ss)
 
 -- the gap, where both times are there
 abbrev pub gapBetween : TimeOf → ℕ → TimeOf → ℕ → ℤ
@@ -127,10 +130,10 @@ gapBetween (At la ra) da (At lb rb) db = gapOf ra da rb db
 gapBetween (At la ra) da NoTime db = pos 0
 gapBetween NoTime da t db = pos 0
 
-abbrev pub afterSteps : Step → Test → Change → Change
-afterSteps (stop e) t c = NoBefore e
-afterSteps on (Fails r) c = ChangeRefused r
-afterSteps on Passes c = c
+abbrev pub afterHurdles : Hurdle → Test → Change → Change
+afterHurdles (stop e) t c = NoBefore e
+afterHurdles clear (Fails r) c = ChangeRefused r
+afterHurdles clear Passes c = c
 
 -- the core: services that are there, stops and dates that are right, on sound tables
 unfoldable pub coreChange : PerFile (List Row) → Side → Side → Change
@@ -141,15 +144,15 @@ coreChange R A B =
     let m = B .stop in
     let a = stopAt aRows (A .stop) in
     let b = stopAt bRows (B .stop) in
-    let station = word a 1 in
+    let station = named a in
     let pa = periodOn R station (A .date) in
     let pb = periodOn R station (B .date) in
-    afterSteps
-    (firstStep
+    afterHurdles
+    (firstHurdle
     (stopIf (eqb (A .service) (B .service) && eqb (A .date) (B .date)) SameService
     ∷ stopIf (not (runsOn R aRows k (A .date))) FromRests
     ∷ stopIf (not (runsOn R bRows m (B .date))) ToRests
-    ∷ stopIf (not (eqb (word a 1) (word b 1))) StationsDiffer
+    ∷ stopIf (not (eqb (named a) (named b))) StationsDiffer
     ∷ stopIf (eqb (arrivalOf a) noTime) NobodyAlights
     ∷ stopIf (eqb (departureOf b) noTime) NobodyBoards
     ∷ []))
@@ -157,9 +160,9 @@ coreChange R A B =
     (core
     (gapBetween (timesBy pa a .arrival) (dayOn R (A .date)) (timesBy pb b .departure) (dayOn R (B .date)))
     (pairAt R station (A .service) (B .service))
-    (word (stationRow R station) 1)
+    (changeFlag (stationRow R station))
     (bestAt R station aRows k bRows m (A .date))
-    (word (stationRow R station) 3))
+    (changeTime (stationRow R station)))
 
 -- "12, 13, 14, for A then B each"
 unfoldable pub precheck : PerFile (List Row) → Side → Side → Test

@@ -6,7 +6,8 @@ use lib.Dec.{ltb, leb}
 use Rattle.iff.specs.Bytes.{dash}
 use Rattle.iff.specs.Refusals.{firstTest, unless}
 use Rattle.iff.specs.Files.{PerFile}
-use Rattle.iff.specs.Tables.{Row, word}
+use Rattle.iff.specs.Tables.{Row}
+use Rattle.iff.specs.Words.{named}
 use Rattle.iff.specs.declared.Reason.the-variants.{NoService, NoStop, NoDate, NotSound}
 use Rattle.iff.specs.declared.Test.{Test}
 use Rattle.iff.specs.declared.Test.the-variants.{Passes, Fails}
@@ -18,7 +19,7 @@ use Rattle.iff_desk.specs.declared.Running.the-variants.{Runs, Rests, Ru
 
 -- "A service runs on leg k on a date, that of its first departure, if the vector of that leg's `-` record has 1 on it, counted from the first day."
 unfoldable pub runsOn : PerFile (List Row) → List Row → ℕ → ℕ → Bool
-runsOn R rs k date = marked (vectorOf (R .footnote) (word (recordOn dash k rs) 1)) (dayOn R date)
+runsOn R rs k date = marked (vectorOf (R .footnote) (named (recordOn dash k rs))) (dayOn R date)
 
 -- legs are 1 to n - 1
 abbrev pub isLeg : List Row → ℕ → Bool

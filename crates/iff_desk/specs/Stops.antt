@@ -8,7 +8,9 @@ use Rattle.iff.specs.Bytes.{greater, less, plus, dash}
 use Rattle.iff.specs.Refusals.{orTest, unless}
 use Rattle.iff.specs.Files.{PerFile}
 use Rattle.iff.specs.Times.{noTime, minutesOf, referenceOf}
-use Rattle.iff.specs.Tables.{Row, word, tag}
+use Rattle.iff.specs.Tables.{Row, tag}
+use Rattle.iff.specs.Words as words
+use Rattle.iff.specs.Words.{named, hours, stopTimeOf}
 use Rattle.iff.specs.declared.Reason.the-variants.{NoPeriod, NotSound}
 use Rattle.iff.specs.declared.Test.{Test}
 use Rattle.iff.specs.declared.Test.the-variants.{Passes, Fails}
@@ -26,19 +28,19 @@ use Rattle.iff_desk.specs.declared.StopTime.the-variants.{Times, StopTim
 
 -- a stop's arrival and departure as written, 9999 for none: `>` has no arrival, `<` no departure, `.` gives both
 abbrev pub arrivalOf : Row → ℕ
-arrivalOf r = cond (eqb (tag r) greater) noTime (word r 2)
+arrivalOf r = cond (eqb (tag r) greater) noTime (words.arrival r)
 
 abbrev pub departureOf : Row → ℕ
-departureOf r = cond (eqb (tag r) less) noTime (cond (eqb (tag r) plus) (word r 3) (word r 2))
+departureOf r = cond (eqb (tag r) less) noTime (cond (eqb (tag r) plus) (words.departure r) (stopTimeOf r))
 
 -- a time by a zone's period: on the zone's clock, and on the reference clock
 abbrev pub timeBy : Row → MinutesOf → TimeOf
-timeBy p (Minutes m) = At (record { 0 = pos m }) (referenceOf (record { 0 = pos m }) (eqb (tag p) dash) (word p 1))
+timeBy p (Minutes m) = At (record { 0 = pos m }) (referenceOf (record { 0 = pos m }) (eqb (tag p) dash) (hours p))
 timeBy p NoMinutes = NoTime
 
 unfoldable pub timesBy : Row → Row → StopTimes
 timesBy p r =
-    record { station = word r 1; arrival = timeBy p (minutesOf (arrivalOf r)); departure = timeBy p (minutesOf (departureOf r)) }
+    record { station = named r; arrival = timeBy p (minutesOf (arrivalOf r)); departure = timeBy p (minutesOf (departureOf r)) }
 
 -- stops are 1 to n
 abbrev pub isStopNumber : List Row → ℕ → Bool
@@ -52,7 +54,7 @@ unfoldable pub stopTimeIn : PerFile (List Row) → ℕ → ℕ → ℕ → StopT
 stopTimeIn R s i date =
     let rs = serviceRows R s in
     let r = stopAt rs i in
-    let p = periodOn R (word r 1) date in
+    let p = periodOn R (named r) date in
     stopTimeAfter (orTest (asked R s (isStopNumber rs i) date) (unless (isThere p) NoPeriod)) (timesBy p r)
 
 abbrev pub stopTimes : Bool → PerFile (List Row) → ℕ → ℕ → ℕ → StopTime

@@ -7,7 +7,11 @@ use lib.Dec.{eqb, ltb, leb}
 use Rattle.iff.specs.Lists.{Group, groups, members, kept}
 use Rattle.iff.specs.Files.{PerFile}
 use Rattle.iff.specs.Days.{inPeriod, dayIn}
-use Rattle.iff.specs.Tables.{Row, word, tag, isHashRow, keyed, letterless}
+use Rattle.iff.specs.Tables.{Row, word, tag, isHashRow, keyed, keyTag, keyWord}
+use Rattle.iff.specs.Words as words
+use Rattle.iff.specs.Words.{named, periodFirst, periodLast, stationZone}
+use Rattle.iff.specs.declared.RowFile.the-variants.{Stations}
+use Rattle.iff.specs.declared.File.the-variants.{Rows}
 use Rattle.iff_rules.specs.Order.{isStop}
 use Rattle.iff_rules.specs.Rows.{firstOf}
 use Rattle.iff_rules.specs.Legs.{lies, ofKind, stopsOf}
@@ -21,7 +25,7 @@ rowsOfGroups [] = []
 rowsOfGroups (g ∷ gs) = members g
 
 unfoldable pub groupOf : ℕ → List Row → List Row
-groupOf k rs = rowsOfGroups (kept (λ g. eqb (word (g .top) 1) k) (groups isHashRow rs))
+groupOf k rs = rowsOfGroups (kept (λ g. eqb (named (g .top)) k) (groups isHashRow rs))
 
 abbrev pub isEmpty : List Row → Bool
 isEmpty [] = true
@@ -41,14 +45,14 @@ recordOn kind k rs = firstOf (kept (lies k) (ofKind kind rs))
 
 -- the row of a station
 unfoldable pub stationRow : PerFile (List Row) → ℕ → Row
-stationRow R k = firstOf (kept (keyed letterless 2 k) (R .stations))
+stationRow R k = firstOf (kept (keyed (keyTag (Rows Stations)) (keyWord (Rows Stations)) k) (R .stations))
 
 -- the days of validity
 abbrev pub firstDay : PerFile (List Row) → ℕ
-firstDay R = word (firstOf (R .delivery)) 2
+firstDay R = words.firstDay (firstOf (R .delivery))
 
 abbrev pub lastDay : PerFile (List Row) → ℕ
-lastDay R = word (firstOf (R .delivery)) 3
+lastDay R = words.lastDay (firstOf (R .delivery))
 
 -- "14 not a date, or outside validity"
 abbrev pub isValid : PerFile (List Row) → ℕ → Bool
@@ -69,7 +73,7 @@ vectorOf rs k = getD (groupOf k rs) 1 noRow
 -- the period of a station's zone that holds a day
 unfoldable pub periodOn : PerFile (List Row) → ℕ → ℕ → Row
 periodOn R station date =
-    firstOf (kept (λ r. inPeriod (word r 2) date (word r 3)) (drop 1 (groupOf (word (stationRow R station) 5) (R .timezone))))
+    firstOf (kept (λ r. inPeriod (periodFirst r) date (periodLast r)) (drop 1 (groupOf (stationZone (stationRow R station)) (R .timezone))))
 
 abbrev pub isThere : Row → Bool
 isThere r = not (eqb (tag r) 0)

@@ -44,12 +44,18 @@ pub enum Source {
     FromXchanges,
 }
 
-// A change: refused; No before a gap is reached; No with a gap and a source, by a pair 00 or a station's flag 0; then, with gap, source and
-// needed time, No because the gap is too short, Yes, or Unsettled.
+// Why a change is a No with a gap and a source, and with no needed time: a pair 00 in CHANGES, or a station's flag 0.
+pub enum Bar {
+    Pair00,
+    Flag0,
+}
+
+// A change: refused; No before a gap is reached; No that a pair or a flag brings about, with the gap; then, with gap, source and needed time, No
+// because the gap is too short, Yes, or Unsettled.
 pub enum Change {
     ChangeRefused(Reason),
     NoBefore(Early),
-    NoBarred(i32, Source),
+    NoBarred(i32, Bar),
     NoShort(i32, Source, u64),
     Yes(i32, Source, u64),
     Unsettled(i32, Source, u64),

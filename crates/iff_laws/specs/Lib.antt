@@ -1,6 +1,14 @@
 pub mod Outcomes
+pub mod Places
+pub mod Propositions
 pub mod Meets
+pub mod Tests
 pub mod ScanLaws
+pub mod TruthLaws
+pub mod UniqueLaws
+pub mod ReferenceLaws
+pub mod LegLaws
+pub mod AnswerLaws
 pub mod LineLaws
 pub mod TestsLaws
 pub mod MeetsLaws

@@ -1,26 +1,30 @@
 -- A line passes its tests exactly when it meets what the paper asks of a line of its kind.
 use Prim.Native.Nat.{ℕ}
-use mathlib.Core.Path.{_≡_, refl, ap, ap₂, sym, _∙_}
+use mathlib.Core.Path.{_≡_, refl, ap, sym, _∙_}
 use mathlib.Core.Logic.{_↔_}
-use mathlib.Core.List.{List, [], _∷_, map}
-use mathlib.Core.Bool.{Bool, true, false, _&&_, false≢true}
-use lib.Dec.{eqb}
+use mathlib.Core.List.{List}
+use mathlib.Core.Bool.{true}
+use lib.ListN.{drop}
 use borrow.Author.Tests.{eqb-true, eq-eqb}
-use Rattle.iff.specs.Lists.{all2, same}
-use Rattle.iff.specs.Refusals.{firstTest, verdictAt}
+use Rattle.iff.specs.Files.{PerFile}
+use Rattle.iff.specs.Refusals.{firstTest, verdictAt, firstFault}
 use Rattle.iff.specs.Lines.{Line}
 use Rattle.iff.specs.Tables.{Row}
-use Rattle.iff.specs.declared.File.{File}
+use Rattle.iff.specs.declared.RowFile.{RowFile}
+use Rattle.iff.specs.declared.GroupFile.{GroupFile}
 use Rattle.iff.specs.declared.Reason.{Reason}
 use Rattle.iff.specs.declared.Place.{Place}
-use Rattle.iff.specs.declared.Verdict.the-variants.{Fault}
+use Rattle.iff.specs.declared.Verdict.the-variants.{Fine, Fault}
 use Rattle.iff.specs.declared.Test.the-variants.{Passes}
 use Rattle.iff.specs.declared.InBlock.{InBlock}
 use Rattle.iff_rules.specs.Order.{LineTests, lineTest}
-use Rattle.iff_rules.specs.Rows.{Context}
-use Rattle.iff_rules.specs.Load.{firstLineTest, plainTest, groupTest, blockTest}
-use Rattle.iff_laws.specs.ScanLaws.{unless-passes, first-test, first-test-at, first-fault}
-use Rattle.iff_laws.specs.Meets.{First, sevenTests, FirstLineMeets, RowMeets, GroupLineMeets, BlockLineMeets}
+use Rattle.iff_laws.specs.Places.{formIn, contextIn}
+use Rattle.iff_laws.specs.Meets.{FirstLineMeets, RowMeets, GroupLineMeets, BlockLineMeets}
+use Rattle.iff_laws.specs.Tests.{sevenTests, askedOfFirst, askedOfRow, askedInGroup, askedInBlock, First}
+use Rattle.iff_laws.specs.ScanLaws.{unless-passes, verdict-fine, first-test, first-test-at, first-fault}
+use Rattle.iff_laws.specs.TruthLaws.{both, and-both, says-same}
+use Rattle.iff_laws.specs.UniqueLaws.{new-key-exactly, new-texts-exactly, new-hash-exactly, new-service-exactly, new-in-group-exactly}
+use Rattle.iff_laws.specs.ReferenceLaws.{row-refers, group-refers, block-refers}
 
 -- A LINE passes exactly when its seven facts hold
 pub record Seven (t : LineTests) : Type 0 where
@@ -59,98 +63,137 @@ seven-passes t s = rw (s .is-known, s .is-here, s .is-laid-out, s .is-as-first, 
 pub line-passes : (t : LineTests) → (lineTest t ≡ Passes) ↔ Seven t
 line-passes t = (passes-seven t, seven-passes t)
 
--- a line fails for r exactly when one of its seven tests does and, in the paper's order, none before it
-pub line-fails : (p : Place) (t : LineTests) (r : Reason) → (verdictAt p (lineTest t) ≡ Fault r p) ↔ First (map (verdictAt p) (sevenTests t)) r p
+-- a line's test, at its place, is the first fault of its seven tests
+pub seven-first : (p : Place) (t : LineTests) → verdictAt p (lineTest t) ≡ firstFault (sevenTests p t)
 unfolding lineTest sevenTests
-line-fails p t r = (λ e. first-fault _ r p .0 (sym (first-test-at p (sevenTests t)) ∙ e), λ f. first-test-at p (sevenTests t) ∙ first-fault _ r p .1 f)
+seven-first p t = first-test-at p _
 
--- two facts in one
-both : (a b : Bool) → (a && b) ≡ true → (a ≡ true) × (b ≡ true)
-both true b e = (refl, e)
-both false b e = absurd (false≢true e)
+-- it fails for r exactly when one of the seven does and, in the paper's order, none before it
+pub line-fails : (p : Place) (t : LineTests) (r : Reason) → (verdictAt p (lineTest t) ≡ Fault r p) ↔ First (sevenTests p t) r p
+line-fails p t r = (λ e. first-fault _ r p .0 (sym (seven-first p t) ∙ e), λ f. seven-first p t ∙ first-fault _ r p .1 f)
 
-and-both : {a b : Bool} → a ≡ true → b ≡ true → (a && b) ≡ true
-and-both p q = rw (p, q)
-
--- the same bytes
-pub same-equal : (s t : List ℕ) → same s t ≡ true → s ≡ t
-unfolding all2
-same-equal [] [] e = refl
-same-equal [] (b ∷ t) e = absurd (false≢true e)
-same-equal (a ∷ s) [] e = absurd (false≢true e)
-same-equal (a ∷ s) (b ∷ t) e = let z = both (eqb a b) (same s t) e in ap₂ (λ (x : ℕ) (y : List ℕ). x ∷ y) (eqb-true a b (z .0)) (same-equal s t (z .1))
-
-pub same-self : (s : List ℕ) → same s s ≡ true
-unfolding all2
-same-self [] = refl
-same-self (a ∷ s) = and-both (eq-eqb a a refl) (same-self s)
+-- and none of the seven fails exactly when the seven facts hold
+pub seven-fine : (p : Place) (t : LineTests) → (firstFault (sevenTests p t) ≡ Fine) ↔ Seven t
+seven-fine p t = (
+  λ e. passes-seven t (verdict-fine p (lineTest t) (seven-first p t ∙ e)),
+  λ s. sym (seven-first p t) ∙ ap (verdictAt p) (seven-passes t s),
+)
 
 -- FIRST LINES
-module _ (header : List ℕ) (l : Line) where
-  pub first-line-meets : firstLineTest (same (l .body) header) l ≡ Passes → FirstLineMeets header l
-  unfolding firstLineTest
-  first-line-meets e =
-      let s = passes-seven _ e in
-      let v = both _ _ (s .is-valued) in
-      record { begins = eqb-true _ _ (s .is-here); laid-out = s .is-laid-out; as-delivery = same-equal _ _ (s .is-as-first); legible = v .0; dated = v .1 }
+pub first-line-exactly : (header : List ℕ) (l : Line) → Seven (askedOfFirst header l) ↔ FirstLineMeets header l
+first-line-exactly header l = (there, back)
+  where
+    there : Seven (askedOfFirst header l) → FirstLineMeets header l
+    there s =
+        let v = both _ _ (s .is-valued) in
+        record {
+          begins = eqb-true _ _ (s .is-here);
+          laid-out = s .is-laid-out;
+          as-delivery = says-same _ _ .0 (s .is-as-first);
+          legible = v .0;
+          dated = v .1;
+        }
 
-  pub meets-first-line : FirstLineMeets header l → firstLineTest (same (l .body) header) l ≡ Passes
-  unfolding firstLineTest
-  meets-first-line m =
-      seven-passes _
-      (record {
-        is-known = refl;
-        is-here = eq-eqb _ _ (m .begins);
-        is-laid-out = m .laid-out;
-        is-as-first = ap (λ (h : List ℕ). same (l .body) h) (sym (m .as-delivery)) ∙ same-self (l .body);
-        is-valued = and-both (m .legible) (m .dated);
-        is-fresh = refl;
-        is-met = refl;
-      })
+    back : FirstLineMeets header l → Seven (askedOfFirst header l)
+    back m =
+        record {
+          is-known = refl;
+          is-here = eq-eqb _ _ (m .begins);
+          is-laid-out = m .laid-out;
+          is-as-first = says-same _ _ .1 (m .as-delivery);
+          is-valued = and-both (m .legible) (m .dated);
+          is-fresh = refl;
+          is-met = refl;
+        }
 
 -- ROWS
-module _ (c : Context) (f : File) (earlier : List Line) (l : Line) where
-  pub row-meets : plainTest c f earlier l ≡ Passes → RowMeets c f earlier l
-  unfolding plainTest
-  row-meets e =
-      let s = passes-seven _ e in
-      let v = both _ _ (s .is-valued) in
-      let u = both _ _ (s .is-fresh) in
-      record { laid-out = s .is-laid-out; legible = v .0; valued = v .1; new-key = u .0; new-texts = u .1; refers = s .is-met }
+module _ (D : PerFile (List Row)) (f : RowFile) (earlier : List Line) (l : Line) where
+  pub row-exactly : Seven (askedOfRow (contextIn D) f earlier l) ↔ RowMeets D f earlier l
+  row-exactly = (there, back)
+    where
+      there : Seven (askedOfRow (contextIn D) f earlier l) → RowMeets D f earlier l
+      there s =
+          let v = both _ _ (s .is-valued) in
+          let u = both _ _ (s .is-fresh) in
+          record {
+            laid-out = s .is-laid-out;
+            legible = v .0;
+            valued = v .1;
+            new-key = new-key-exactly (formIn D) f earlier l .0 (u .0);
+            new-texts = new-texts-exactly f earlier l .0 (u .1);
+            refers = row-refers D f _ .0 (s .is-met);
+          }
 
-  pub meets-row : RowMeets c f earlier l → plainTest c f earlier l ≡ Passes
-  unfolding plainTest
-  meets-row m =
-      seven-passes _
-      (record { is-known = refl; is-here = refl; is-laid-out = m .laid-out; is-as-first = refl; is-valued = and-both (m .legible) (m .valued); is-fresh = and-both (m .new-key) (m .new-texts); is-met = m .refers })
+      back : RowMeets D f earlier l → Seven (askedOfRow (contextIn D) f earlier l)
+      back m =
+          record {
+            is-known = refl;
+            is-here = refl;
+            is-laid-out = m .laid-out;
+            is-as-first = refl;
+            is-valued = and-both (m .legible) (m .valued);
+            is-fresh = and-both (new-key-exactly (formIn D) f earlier l .1 (m .new-key)) (new-texts-exactly f earlier l .1 (m .new-texts));
+            is-met = row-refers D f _ .1 (m .refers);
+          }
 
 -- LINES OF GROUPS
-module _ (c : Context) (f : File) (seen : List ℕ) (earlier : List Row) (l : Line) where
-  pub group-line-meets : groupTest c f seen earlier l ≡ Passes → GroupLineMeets c f seen earlier l
-  unfolding groupTest
-  group-line-meets e =
-      let s = passes-seven _ e in
-      let v = both _ _ (s .is-valued) in
-      let u = both _ _ (s .is-fresh) in
-      record { lettered = s .is-known; in-order = s .is-here; laid-out = s .is-laid-out; legible = v .0; valued = v .1; new-key = u .0; new-in-group = u .1; refers = s .is-met }
+module _ (D : PerFile (List Row)) (f : GroupFile) (seen : List ℕ) (earlier : List Row) (l : Line) where
+  pub group-line-exactly : Seven (askedInGroup (contextIn D) f seen earlier l) ↔ GroupLineMeets D f seen earlier l
+  group-line-exactly = (there, back)
+    where
+      there : Seven (askedInGroup (contextIn D) f seen earlier l) → GroupLineMeets D f seen earlier l
+      there s =
+          let v = both _ _ (s .is-valued) in
+          let u = both _ _ (s .is-fresh) in
+          record {
+            lettered = s .is-known;
+            in-order = s .is-here;
+            laid-out = s .is-laid-out;
+            legible = v .0;
+            valued = v .1;
+            new-key = new-hash-exactly f seen _ .0 (u .0);
+            new-in-group = new-in-group-exactly f (drop 1 earlier) _ .0 (u .1);
+            refers = group-refers D f _ .0 (s .is-met);
+          }
 
-  pub meets-group-line : GroupLineMeets c f seen earlier l → groupTest c f seen earlier l ≡ Passes
-  unfolding groupTest
-  meets-group-line m =
-      seven-passes _
-      (record { is-known = m .lettered; is-here = m .in-order; is-laid-out = m .laid-out; is-as-first = refl; is-valued = and-both (m .legible) (m .valued); is-fresh = and-both (m .new-key) (m .new-in-group); is-met = m .refers })
+      back : GroupLineMeets D f seen earlier l → Seven (askedInGroup (contextIn D) f seen earlier l)
+      back m =
+          record {
+            is-known = m .lettered;
+            is-here = m .in-order;
+            is-laid-out = m .laid-out;
+            is-as-first = refl;
+            is-valued = and-both (m .legible) (m .valued);
+            is-fresh = and-both (new-hash-exactly f seen _ .1 (m .new-key)) (new-in-group-exactly f (drop 1 earlier) _ .1 (m .new-in-group));
+            is-met = group-refers D f _ .1 (m .refers);
+          }
 
 -- LINES OF TIMETBLS BLOCKS
-module _ (c : Context) (seen : List ℕ) (st : InBlock) (l : Line) where
-  pub block-line-meets : blockTest c seen st l ≡ Passes → BlockLineMeets c seen st l
-  unfolding blockTest
-  block-line-meets e =
-      let s = passes-seven _ e in
-      let v = both _ _ (s .is-valued) in
-      record { lettered = s .is-known; in-order = s .is-here; laid-out = s .is-laid-out; legible = v .0; valued = v .1; new-key = s .is-fresh; refers = s .is-met }
+module _ (D : PerFile (List Row)) (seen : List ℕ) (st : InBlock) (l : Line) where
+  pub block-line-exactly : Seven (askedInBlock (contextIn D) seen st l) ↔ BlockLineMeets D seen st l
+  block-line-exactly = (there, back)
+    where
+      there : Seven (askedInBlock (contextIn D) seen st l) → BlockLineMeets D seen st l
+      there s =
+          let v = both _ _ (s .is-valued) in
+          record {
+            lettered = s .is-known;
+            in-order = s .is-here;
+            laid-out = s .is-laid-out;
+            legible = v .0;
+            valued = v .1;
+            new-key = new-service-exactly seen _ .0 (s .is-fresh);
+            refers = block-refers D _ .0 (s .is-met);
+          }
 
-  pub meets-block-line : BlockLineMeets c seen st l → blockTest c seen st l ≡ Passes
-  unfolding blockTest
-  meets-block-line m =
-      seven-passes _
-      (record { is-known = m .lettered; is-here = m .in-order; is-laid-out = m .laid-out; is-as-first = refl; is-valued = and-both (m .legible) (m .valued); is-fresh = m .new-key; is-met = m .refers })
+      back : BlockLineMeets D seen st l → Seven (askedInBlock (contextIn D) seen st l)
+      back m =
+          record {
+            is-known = m .lettered;
+            is-here = m .in-order;
+            is-laid-out = m .laid-out;
+            is-as-first = refl;
+            is-valued = and-both (m .legible) (m .valued);
+            is-fresh = new-service-exactly seen _ .1 (m .new-key);
+            is-met = block-refers D _ .1 (m .refers);
+          }

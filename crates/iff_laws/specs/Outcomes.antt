@@ -27,7 +27,8 @@ pub record Loaded (F : PerFile (List ℕ)) (R : PerFile ℕ) (a : Answer) (T : P
   pub answers : a ≡ loadAnswer F R
   pub leaves : (f : File) → of T f ≡ loadTable f F R
 
-pub one-load : {F : PerFile (List ℕ)} {R : PerFile ℕ} {a b : Answer} {T U : PerFile (List ℕ)} → Loaded F R a T → Loaded F R b U → (a ≡ b) × ((f : File) → of T f ≡ of U f)
+pub one-load : {F : PerFile (List ℕ)} {R : PerFile ℕ} {a b : Answer} {T U : PerFile (List ℕ)}
+    → Loaded F R a T → Loaded F R b U → (a ≡ b) × ((f : File) → of T f ≡ of U f)
 one-load p q = (one-outcome (p .answers) (q .answers), λ f. one-outcome (p .leaves f) (q .leaves f))
 
 -- what an amendment's contract allows: the answer, and TIMETBLS at exit; the other tables are not lent to be written
@@ -35,7 +36,8 @@ pub record Amended (T : PerFile (List ℕ)) (s : ℕ) (block : List ℕ) (a : An
   pub answers : a ≡ amendAnswer T s block
   pub leaves : t ≡ amendTimetbls T s block
 
-pub one-amendment : {T : PerFile (List ℕ)} {s : ℕ} {block : List ℕ} {a b : Answer} {t u : List ℕ} → Amended T s block a t → Amended T s block b u → (a ≡ b) × (t ≡ u)
+pub one-amendment : {T : PerFile (List ℕ)} {s : ℕ} {block : List ℕ} {a b : Answer} {t u : List ℕ}
+    → Amended T s block a t → Amended T s block b u → (a ≡ b) × (t ≡ u)
 one-amendment p q = (one-outcome (p .answers) (q .answers), one-outcome (p .leaves) (q .leaves))
 
 -- the questions
@@ -52,8 +54,10 @@ module _ (T : PerFile (List ℕ)) where
   pub one-change : (A B : Side) {a b : Change} → a ≡ change T A B → b ≡ change T A B → a ≡ b
   one-change A B p q = one-outcome p q
 
-pub one-name : (stations : List ℕ) (short : ℕ) {a b : List ℕ} {m n : Test} → a ≡ name stations short → m ≡ nameTest stations short → b ≡ name stations short → n ≡ nameTest stations short → (a ≡ b) × (m ≡ n)
+pub one-name : (stations : List ℕ) (short : ℕ) {a b : List ℕ} {m n : Test}
+    → a ≡ name stations short → m ≡ nameTest stations short → b ≡ name stations short → n ≡ nameTest stations short → (a ≡ b) × (m ≡ n)
 one-name stations short p u q v = (one-outcome p q, one-outcome u v)
 
-pub one-lines-now : (t block : List ℕ) (s : ℕ) {a b : List ℕ} {m n : Test} → a ≡ linesNow t block s → m ≡ linesNowTest t block s → b ≡ linesNow t block s → n ≡ linesNowTest t block s → (a ≡ b) × (m ≡ n)
+pub one-lines-now : (t block : List ℕ) (s : ℕ) {a b : List ℕ} {m n : Test}
+    → a ≡ linesNow t block s → m ≡ linesNowTest t block s → b ≡ linesNow t block s → n ≡ linesNowTest t block s → (a ≡ b) × (m ≡ n)
 one-lines-now t block s p u q v = (one-outcome p q, one-outcome u v)

@@ -1,4 +1,5 @@
--- Laws of verdicts, once for all files: a list of tests has no fault exactly when none of them fails; its fault is the first; a scan is the list of its entries' tests, each in its state.
+-- Laws of verdicts, once for all files: a list of tests has no fault exactly when none of them fails; its fault is the first;
+-- a scan is the list of its entries' tests, each in its state.
 use Prim.Native.Nat.{ℕ, zero, suc, _+_, _<_}
 use mathlib.Core.Path.{_≡_, refl, ap, sym, _∙_}
 use mathlib.Core.Logic.{_↔_}
@@ -14,7 +15,7 @@ use Rattle.iff.specs.declared.Test.{Test}
 use Rattle.iff.specs.declared.Test.the-variants.{Passes, Fails}
 use Rattle.iff.specs.declared.Verdict.{Verdict}
 use Rattle.iff.specs.declared.Verdict.the-variants.{Fine, Fault}
-use Rattle.iff_laws.specs.Meets.{along, First}
+use Rattle.iff_laws.specs.Tests.{along, First}
 
 -- TESTS OF A LINE
 pub unless-passes : (b : Bool) (r : Reason) → unless b r ≡ Passes → b ≡ true
@@ -56,7 +57,8 @@ first-one v = or-nothing v
 pub in-turn : {v w : Verdict} (vs ws : List Verdict) → v ≡ firstFault vs → w ≡ firstFault ws → orElse v w ≡ firstFault (vs ++ ws)
 in-turn vs ws d e = rw (d, e, first-append)
 
-pub turn : {v : Verdict} (rest vs ws : List Verdict) → v ≡ firstFault vs → firstFault rest ≡ firstFault ws → firstFault (v ∷ rest) ≡ firstFault (vs ++ ws)
+pub turn : {v : Verdict} (rest vs ws : List Verdict)
+    → v ≡ firstFault vs → firstFault rest ≡ firstFault ws → firstFault (v ∷ rest) ≡ firstFault (vs ++ ws)
 unfolding firstFault
 turn rest vs ws d e = in-turn vs ws d e
 
@@ -110,7 +112,8 @@ module _ {r : Reason} {p : Place} where
           before (suc i) h = f .none-before i (omega arith)
   fault-is-first (Fault r′ p′ ∷ vs) e = record { nth = 0; inside = omega arith; fails = e; none-before = λ i h. absurd (omega arith) }
 
-  pub first-at : (vs : List Verdict) (n : ℕ) → n < length vs → getD vs n Fine ≡ Fault r p → ((i : ℕ) → i < n → getD vs i Fine ≡ Fine) → firstFault vs ≡ Fault r p
+  pub first-at : (vs : List Verdict) (n : ℕ)
+      → n < length vs → getD vs n Fine ≡ Fault r p → ((i : ℕ) → i < n → getD vs i Fine ≡ Fine) → firstFault vs ≡ Fault r p
   unfolding firstFault
   first-at [] n h e b = absurd (omega arith)
   first-at (v ∷ vs) zero h e b = rw e
@@ -137,7 +140,8 @@ along-fine (suc n) at e (suc j) h = along-fine n (λ j. at (suc j)) (append-fine
 pub fine-along : (n : ℕ) (at : ℕ → List Verdict) → ((j : ℕ) → j < n → firstFault (at j) ≡ Fine) → firstFault (along n at) ≡ Fine
 unfolding along firstFault
 fine-along zero at f = refl
-fine-along (suc n) at f = fine-append (at 0) (along n (λ j. at (suc j))) (f 0 (omega arith)) (fine-along n (λ j. at (suc j)) (λ j h. f (suc j) (omega arith)))
+fine-along (suc n) at f =
+    fine-append (at 0) (along n (λ j. at (suc j))) (f 0 (omega arith)) (fine-along n (λ j. at (suc j)) (λ j h. f (suc j) (omega arith)))
 
 -- one test at each
 module _ (v : ℕ → Verdict) where
@@ -161,13 +165,17 @@ module _ {S A : Type 0} (test : S → ℕ → A → Verdict) (next : S → A →
   entry st i xs j = test (after next st (take j xs)) (i + j) (getD xs j d)
 
   -- THE LAW OF THE SCAN
-  pub scan-along : (st : S) (i : ℕ) (xs : List A) (at : ℕ → List Verdict) → ((j : ℕ) → j < length xs → entry st i xs j ≡ firstFault (at j)) → scan test next st i xs ≡ firstFault (along (length xs) at)
+  pub scan-along : (st : S) (i : ℕ) (xs : List A) (at : ℕ → List Verdict)
+      → ((j : ℕ) → j < length xs → entry st i xs j ≡ firstFault (at j)) → scan test next st i xs ≡ firstFault (along (length xs) at)
   unfolding scan along after firstFault
   scan-along st i [] at f = refl
   scan-along st i (x ∷ xs) at f =
       in-turn (at 0) (along (length xs) (λ j. at (suc j)))
       (ap (λ (n : ℕ). test st n x) (sym (add-zero i)) ∙ f 0 (omega arith))
-      (scan-along (next st x) (suc i) xs (λ j. at (suc j)) (λ j h. let n : suc i + j ≡ i + suc j = omega arith in ap (λ (n : ℕ). test (after next (next st x) (take j xs)) n (getD xs j d)) n ∙ f (suc j) (omega arith)))
+      (scan-along (next st x) (suc i) xs (λ j. at (suc j))
+      (λ j h.
+      let n : suc i + j ≡ i + suc j = omega arith in
+      ap (λ (n : ℕ). test (after next (next st x) (take j xs)) n (getD xs j d)) n ∙ f (suc j) (omega arith)))
 
   pub scan-tests : (st : S) (i : ℕ) (xs : List A) → scan test next st i xs ≡ firstFault (along (length xs) (each (entry st i xs)))
   scan-tests st i xs = scan-along st i xs (each (entry st i xs)) (λ j h. sym (first-one (entry st i xs j)))

@@ -7,15 +7,16 @@ use lib.Dec.{eqb, ltb, leb}
 use Rattle.iff.specs.Bytes.{percent, dash, ampersand, asterisk}
 use Rattle.iff.specs.Lists.{all, kept, total}
 use Rattle.iff.specs.Columns.{on}
-use Rattle.iff.specs.Tables.{Row, word, tag}
+use Rattle.iff.specs.Tables.{Row, tag}
+use Rattle.iff.specs.Words.{named, trainFirst, trainLast, recordFirst, recordLast}
 use Rattle.iff_rules.specs.Order.{isStop}
 
 -- where a record keeps first and last
 abbrev pub firstStop : Row → ℕ
-firstStop r = cond (eqb (tag r) percent) (word r 3) (word r 2)
+firstStop r = cond (eqb (tag r) percent) (trainFirst r) (recordFirst r)
 
 abbrev pub lastStop : Row → ℕ
-lastStop r = cond (eqb (tag r) percent) (word r 4) (word r 3)
+lastStop r = cond (eqb (tag r) percent) (trainLast r) (recordLast r)
 
 -- leg k lies in a record
 abbrev pub lies : ℕ → Row → Bool
@@ -38,19 +39,30 @@ covered (suc m) rs = eqb (covering (suc m) rs) 1 && covered m rs
 abbrev pub ofKind : ℕ → List Row → List Row
 ofKind x rs = kept (λ r. eqb (tag r) x) rs
 
--- "For `%`, `-` and `&`: 1 ≤ first < last ≤ n. For `*`: 1 ≤ first ≤ last ≤ n."
+-- "For `%`, `-` and `&`: 1 ≤ first < last ≤ n."
 abbrev pub ranged : ℕ → Row → Bool
 ranged n r = leb 1 (firstStop r) && (ltb (firstStop r) (lastStop r) && leb (lastStop r) n)
 
-abbrev pub rangedLoosely : ℕ → Row → Bool
-rangedLoosely n r = leb 1 (firstStop r) && (leb (firstStop r) (lastStop r) && leb (lastStop r) n)
+-- how far an attribute reaches, by its code: today all may be one stop's or more
+pub data Reach : Type 0 where
+  anyReach : Reach
 
-unfoldable pub inRange : ℕ → Row → Bool
-inRange n r =
+abbrev pub reaches : Reach → ℕ → ℕ → Bool
+reaches anyReach first last = leb first last
+
+abbrev pub reachOf : ℕ → Reach
+reachOf attribute = anyReach
+
+-- "For `*`: 1 ≤ first ≤ last ≤ n."
+abbrev pub rangedBy : Reach → ℕ → Row → Bool
+rangedBy reach n r = leb 1 (firstStop r) && (reaches reach (firstStop r) (lastStop r) && leb (lastStop r) n)
+
+unfoldable pub inRange : (ℕ → Reach) → ℕ → Row → Bool
+inRange reach n r =
     on (tag r) percent (ranged n r)
     (on (tag r) dash (ranged n r)
     (on (tag r) ampersand (ranged n r)
-    (on (tag r) asterisk (rangedLoosely n r)
+    (on (tag r) asterisk (rangedBy (reach (named r)) n r)
     true)))
 
 -- n
@@ -58,9 +70,9 @@ abbrev pub stopsOf : List Row → ℕ
 stopsOf rs = length (kept (λ r. isStop (tag r)) rs)
 
 -- "and for each kind every leg lies in exactly one record"
-unfoldable pub legs : List Row → Bool
-legs rs =
-    all (inRange (stopsOf rs)) rs
+unfoldable pub legs : (ℕ → Reach) → List Row → Bool
+legs reach rs =
+    all (inRange reach (stopsOf rs)) rs
     && (covered (stopsOf rs - 1) (ofKind percent rs)
     && (covered (stopsOf rs - 1) (ofKind dash rs)
     && covered (stopsOf rs - 1) (ofKind ampersand rs)))

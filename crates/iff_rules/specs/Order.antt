@@ -6,13 +6,17 @@ use lib.ListN.{length}
 use lib.Dec.{eqb, leb}
 use Rattle.iff.specs.Bytes.{hash, percent, ampersand, asterisk, plus, dash, dot, semicolon, less, greater, question, at}
 use Rattle.iff.specs.Lists.{has}
-use Rattle.iff.specs.Refusals.{firstTest, unless}
+use Rattle.iff.specs.Refusals.{firstTest, unless, after}
 use Rattle.iff.specs.Columns.{on}
-use Rattle.iff.specs.Tables.{letterless}
+use Rattle.iff.specs.Tables.{Row, letterless}
+use Rattle.iff.specs.declared.GroupFile.{GroupFile}
+use Rattle.iff.specs.declared.GroupFile.the-variants.{Timezone, Footnote, Changes, Xfootnote, Xchanges}
 use Rattle.iff.specs.declared.File.{File}
-use Rattle.iff.specs.declared.File.the-variants.{Delivery, Company, Country, Trnsmode, Timezone, Stations, Footnote, Timetbls, Changes, Xfootnote, Xchanges}
+use Rattle.iff.specs.declared.File.the-variants.{Delivery, Rows, Groups, Timetbls}
 use Rattle.iff.specs.declared.Reason.the-variants.{Layout, Value, FirstLine, Order, Duplicate, Reference}
 use Rattle.iff.specs.declared.Test.{Test}
+use Rattle.iff.specs.declared.GroupStand.{GroupStand}
+use Rattle.iff.specs.declared.GroupStand.the-variants.{Opening, Opened, Going}
 use Rattle.iff.specs.declared.Stand.{Stand}
 use Rattle.iff.specs.declared.Stand.the-variants.{Start, Hash, Percent, Dash, Ampersand, Asterisk, Stop, Between, Last, LastPlatform}
 use Rattle.iff.specs.declared.Next.{Next}
@@ -44,79 +48,84 @@ lineTest t =
 abbrev pub strayTests : Bool → LineTests
 strayTests known = record { known = known; here = false; laidOut = true; asFirst = true; valued = true; fresh = true; met = true }
 
--- "Known first bytes are `@` and the file's own letters. In a file without record letters every later line is a row."
-abbrev pub letters : File → List ℕ
-letters Delivery = []
-letters Company = []
-letters Country = []
-letters Trnsmode = []
-letters Timezone = at ∷ hash ∷ plus ∷ dash ∷ []
-letters Stations = []
-letters Footnote = at ∷ hash ∷ 48 ∷ 49 ∷ []
-letters Timetbls = at ∷ hash ∷ percent ∷ dash ∷ ampersand ∷ asterisk ∷ greater ∷ dot ∷ plus ∷ semicolon ∷ less ∷ question ∷ []
-letters Changes = at ∷ hash ∷ dash ∷ []
-letters Xfootnote = at ∷ hash ∷ 48 ∷ 49 ∷ []
-letters Xchanges = at ∷ hash ∷ dash ∷ []
+-- "Known first bytes are `@` and the file's own letters." The files of rows have none.
+abbrev pub groupLetters : GroupFile → List ℕ
+groupLetters Timezone = at ∷ hash ∷ plus ∷ dash ∷ []
+groupLetters Footnote = at ∷ hash ∷ 48 ∷ 49 ∷ []
+groupLetters Changes = at ∷ hash ∷ dash ∷ []
+groupLetters Xfootnote = at ∷ hash ∷ 48 ∷ 49 ∷ []
+groupLetters Xchanges = at ∷ hash ∷ dash ∷ []
 
-abbrev pub known : File → ℕ → Bool
-known f x = has x (letters f)
+abbrev pub blockLetters : List ℕ
+blockLetters = at ∷ hash ∷ percent ∷ dash ∷ ampersand ∷ asterisk ∷ greater ∷ dot ∷ plus ∷ semicolon ∷ less ∷ question ∷ []
 
--- a row's tag: the record's letter; a vector and a row of a file without record letters have none
+abbrev pub knownInGroup : GroupFile → ℕ → Bool
+knownInGroup f x = has x (groupLetters f)
+
+abbrev pub knownInBlock : ℕ → Bool
+knownInBlock x = has x blockLetters
+
+-- a row's tag: the record's letter; a vector and a row of a file of rows have none
 abbrev pub vectorTag : ℕ → ℕ
 vectorTag x = on x hash hash (on x at at letterless)
 
+abbrev pub groupTag : GroupFile → ℕ → ℕ
+groupTag Timezone x = x
+groupTag Footnote x = vectorTag x
+groupTag Changes x = x
+groupTag Xfootnote x = vectorTag x
+groupTag Xchanges x = x
+
 abbrev pub tagOf : File → ℕ → ℕ
 tagOf Delivery x = letterless
-tagOf Company x = letterless
-tagOf Country x = letterless
-tagOf Trnsmode x = letterless
-tagOf Timezone x = x
-tagOf Stations x = letterless
-tagOf Footnote x = vectorTag x
+tagOf (Rows f) x = letterless
+tagOf (Groups f) x = groupTag f x
 tagOf Timetbls x = x
-tagOf Changes x = x
-tagOf Xfootnote x = vectorTag x
-tagOf Xchanges x = x
 
 -- "TIMEZONE: `#`, one or more periods. Vectors: `#`, one vector. CHANGES and XCHANGES: `#`, rows, perhaps none."
--- what may follow the `#` of a group as its line k + 1, and how many lines a finished group has at the least
 abbrev pub isPeriod : ℕ → Bool
 isPeriod t = eqb t plus || eqb t dash
 
-abbrev pub oneVector : ℕ → ℕ → Bool
-oneVector zero t = eqb t letterless
-oneVector (suc k) t = false
+abbrev pub oneVector : GroupStand → ℕ → Bool
+oneVector Opening t = false
+oneVector Opened t = eqb t letterless
+oneVector Going t = false
 
-abbrev pub inGroup : File → ℕ → ℕ → Bool
-inGroup Delivery k t = false
-inGroup Company k t = false
-inGroup Country k t = false
-inGroup Trnsmode k t = false
-inGroup Timezone k t = isPeriod t
-inGroup Stations k t = false
-inGroup Footnote k t = oneVector k t
-inGroup Timetbls k t = false
-inGroup Changes k t = eqb t dash
-inGroup Xfootnote k t = oneVector k t
-inGroup Xchanges k t = eqb t dash
+abbrev pub inGroup : GroupFile → GroupStand → ℕ → Bool
+inGroup Timezone s t = isPeriod t
+inGroup Footnote s t = oneVector s t
+inGroup Changes s t = eqb t dash
+inGroup Xfootnote s t = oneVector s t
+inGroup Xchanges s t = eqb t dash
 
--- after k lines of the group, a row with this tag
-unfoldable pub mayFollow : File → ℕ → ℕ → Bool
-mayFollow f zero t = eqb t hash
-mayFollow f (suc k) t = inGroup f k t
+-- where a group stands, a row with this tag may come; and where the group stands after it
+unfoldable pub mayFollow : GroupFile → GroupStand → ℕ → Bool
+mayFollow f Opening t = eqb t hash
+mayFollow f Opened t = inGroup f Opened t
+mayFollow f Going t = inGroup f Going t
 
-abbrev pub least : File → ℕ
-least Delivery = 0
-least Company = 0
-least Country = 0
-least Trnsmode = 0
-least Timezone = 2
-least Stations = 0
-least Footnote = 2
-least Timetbls = 0
-least Changes = 1
-least Xfootnote = 2
-least Xchanges = 1
+abbrev pub groupMoves : GroupStand → GroupStand
+groupMoves Opening = Opened
+groupMoves Opened = Going
+groupMoves Going = Going
+
+-- where a group stands after some rows
+unfoldable pub groupStand : List Row → GroupStand
+groupStand rs = after (λ s r. groupMoves s) Opening rs
+
+-- a group may end right after its `#`; else it needs a line more
+abbrev pub endsOpened : GroupFile → Bool
+endsOpened Timezone = false
+endsOpened Footnote = false
+endsOpened Changes = true
+endsOpened Xfootnote = false
+endsOpened Xchanges = true
+
+-- a group may end here; where none was opened, nothing is missing
+abbrev pub mayEnd : GroupFile → GroupStand → Bool
+mayEnd f Opening = true
+mayEnd f Opened = endsOpened f
+mayEnd f Going = true
 
 -- "TIMETBLS block: `#`; one or more `%`; one or more `-`; one or more `&`; any `*`; `>`; any of `.` `+` `;`; `<`.
 -- A stop record `>` `.` `+` `<` may be followed by one platform record, after which the stops go on."

@@ -6,9 +6,14 @@ use Rattle.iff.specs.Bytes.{hash, percent, dash, ampersand, asterisk, question}
 use Rattle.iff.specs.Lists.{has}
 use Rattle.iff.specs.Columns.{on}
 use Rattle.iff.specs.Values.{codeOf, wildcard}
-use Rattle.iff.specs.Tables.{Row, word, tag}
+use Rattle.iff.specs.Tables.{Row, tag}
+use Rattle.iff.specs.Words.{named, attributeFootnote, stationCountry, stationZone, fromService, toService, fromCompany, fromMode, toCompany, toMode, exceptionFootnote}
+use Rattle.iff.specs.declared.RowFile.{RowFile}
+use Rattle.iff.specs.declared.RowFile.the-variants.{Company, Country, Trnsmode, Stations}
+use Rattle.iff.specs.declared.GroupFile.{GroupFile}
+use Rattle.iff.specs.declared.GroupFile.the-variants.{Timezone, Footnote, Changes, Xfootnote, Xchanges}
 use Rattle.iff.specs.declared.File.{File}
-use Rattle.iff.specs.declared.File.the-variants.{Delivery, Company, Country, Trnsmode, Timezone, Stations, Footnote, Timetbls, Changes, Xfootnote, Xchanges}
+use Rattle.iff.specs.declared.File.the-variants.{Rows, Groups, Timetbls}
 use Rattle.iff_rules.specs.Rows.{Context}
 
 -- "An XCHANGES wildcard needs no row in COMPANY or TRNSMODE."
@@ -18,35 +23,50 @@ anyCompany = codeOf (wildcard 3)
 abbrev pub anyMode : ℕ
 anyMode = codeOf (wildcard 4)
 
--- "The attribute code is not looked up."
+-- a file has a row of this key
+abbrev pub names : Context → File → ℕ → Bool
+names c f key = has key (c .keys f)
+
+-- a row of a file of rows: only STATIONS names anything
+unfoldable pub metByRow : Context → RowFile → Row → Bool
+metByRow c Company r = true
+metByRow c Country r = true
+metByRow c Trnsmode r = true
+metByRow c Stations r = names c (Rows Country) (stationCountry r) && names c (Groups Timezone) (stationZone r)
+
+-- a record of a block. "The attribute code is not looked up."
 unfoldable pub metInBlock : Context → Row → Bool
 metInBlock c r =
     on (tag r) hash true
-    (on (tag r) percent (has (word r 1) (c .companies))
-    (on (tag r) dash (has (word r 1) (c .footnotes))
-    (on (tag r) ampersand (has (word r 1) (c .modes))
-    (on (tag r) asterisk (has (word r 4) (c .footnotes))
-    (on (tag r) question (has (word r 1) (c .footnotes))
-    (has (word r 1) (c .stations)))))))
+    (on (tag r) percent (names c (Rows Company) (named r))
+    (on (tag r) dash (names c (Groups Footnote) (named r))
+    (on (tag r) ampersand (names c (Rows Trnsmode) (named r))
+    (on (tag r) asterisk (names c (Groups Footnote) (attributeFootnote r))
+    (on (tag r) question (names c (Groups Footnote) (named r))
+    (names c (Rows Stations) (named r)))))))
+
+abbrev pub metPair : Context → Row → Bool
+metPair c r = names c Timetbls (fromService r) && names c Timetbls (toService r)
 
 -- "XCHANGES footnotes are in XFOOTNOTE, all others in FOOTNOTE."
+abbrev pub metCompany : Context → ℕ → Bool
+metCompany c key = eqb key anyCompany || names c (Rows Company) key
+
+abbrev pub metMode : Context → ℕ → Bool
+metMode c key = eqb key anyMode || names c (Rows Trnsmode) key
+
 abbrev pub metException : Context → Row → Bool
 metException c r =
-    (eqb (word r 1) anyCompany || has (word r 1) (c .companies))
-    && ((eqb (word r 2) anyMode || has (word r 2) (c .modes))
-    && ((eqb (word r 3) anyCompany || has (word r 3) (c .companies))
-    && ((eqb (word r 4) anyMode || has (word r 4) (c .modes))
-    && has (word r 6) (c .xfootnotes))))
+    metCompany c (fromCompany r)
+    && (metMode c (fromMode r)
+    && (metCompany c (toCompany r)
+    && (metMode c (toMode r)
+    && names c (Groups Xfootnote) (exceptionFootnote r))))
 
-unfoldable pub met : Context → File → Row → Bool
-met c Delivery r = true
-met c Company r = true
-met c Country r = true
-met c Trnsmode r = true
-met c Timezone r = true
-met c Stations r = has (word r 4) (c .countries) && has (word r 5) (c .zones)
-met c Footnote r = true
-met c Timetbls r = metInBlock c r
-met c Changes r = cond (eqb (tag r) hash) (has (word r 1) (c .stations)) (has (word r 1) (c .services) && has (word r 2) (c .services))
-met c Xfootnote r = true
-met c Xchanges r = cond (eqb (tag r) hash) (has (word r 1) (c .stations)) (metException c r)
+-- a row of a group: zones and footnotes name nothing
+unfoldable pub metInGroup : Context → GroupFile → Row → Bool
+metInGroup c Timezone r = true
+metInGroup c Footnote r = true
+metInGroup c Changes r = cond (eqb (tag r) hash) (names c (Rows Stations) (named r)) (metPair c r)
+metInGroup c Xfootnote r = true
+metInGroup c Xchanges r = cond (eqb (tag r) hash) (names c (Rows Stations) (named r)) (metException c r)

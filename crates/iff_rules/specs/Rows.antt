@@ -8,28 +8,30 @@ use Rattle.iff.specs.Bytes.{hash, at}
 use Rattle.iff.specs.Lists.{Group, groups, members, flat, total, kept}
 use Rattle.iff.specs.Files.{PerFile, of, perFile}
 use Rattle.iff.specs.Lines.{Line, lines, letter, isHash, noLine}
-use Rattle.iff.specs.Columns.{Field, on, firstFields, fieldsOf}
+use Rattle.iff.specs.Columns.{Field, on, firstFields, fieldsOf, form424}
 use Rattle.iff.specs.Values.{words}
 use Rattle.iff.specs.Days.{span}
 use Rattle.iff.specs.Tables.{Row, word, tag, letterless, rowWidth, padded, keysOf, rising}
+use Rattle.iff.specs.Words.{firstDay, lastDay}
 use Rattle.iff.specs.declared.File.{File}
-use Rattle.iff.specs.declared.File.the-variants.{Delivery, Company, Country, Trnsmode, Timezone, Stations, Footnote, Timetbls, Changes, Xfootnote, Xchanges}
+use Rattle.iff.specs.declared.File.the-variants.{Delivery, Rows, Groups, Timetbls}
+use Rattle.iff.specs.declared.Form.{Form}
 use Rattle.iff_rules.specs.Order.{tagOf, isStop}
 
--- a line's tag and kept fields, in a delivery of some days and, in TIMETBLS, a block of n stops
-abbrev pub lineWords : ℕ → ℕ → File → Line → List ℕ
-lineWords n days f l = tagOf f (letter l) ∷ words n (l .body) (fieldsOf days f (letter l))
+-- a line's tag and kept fields, in a delivery of some form and, in TIMETBLS, a block of n stops
+abbrev pub lineWords : ℕ → Form → File → Line → List ℕ
+lineWords n form f l = tagOf f (letter l) ∷ words n (l .body) (fieldsOf form f (letter l))
 
-unfoldable pub rowOf : ℕ → File → Line → Row
-rowOf days f l = padded (rowWidth f) (lineWords 0 days f l)
+unfoldable pub rowOf : Form → File → Line → Row
+rowOf form f l = padded (rowWidth f) (lineWords 0 form f l)
 
 -- TIMETBLS: line j of a block of k lines and n stops. Its number in the block is the last word; the `#` row counts lines and stops.
 abbrev pub counts : ℕ → ℕ → Bool → List ℕ
 counts n k true = k ∷ n ∷ []
 counts n k false = []
 
-unfoldable pub blockRow : ℕ → ℕ → ℕ → Line → Row
-blockRow n k j l = padded 6 (lineWords n 0 Timetbls l ++ counts n k (isHash l)) ++ (j ∷ [])
+unfoldable pub blockRow : Form → ℕ → ℕ → ℕ → Line → Row
+blockRow form n k j l = padded 6 (lineWords n form Timetbls l ++ counts n k (isHash l)) ++ (j ∷ [])
 
 abbrev pub stopsIn : Group Line → ℕ
 stopsIn g = length (kept (λ l. isStop (letter l)) (members g))
@@ -38,16 +40,16 @@ abbrev pub linesIn : Group Line → ℕ
 linesIn g = length (members g)
 
 -- the lines of a block from number j on
-unfoldable pub blockRowsFrom : ℕ → ℕ → ℕ → List Line → List Row
-blockRowsFrom n k j [] = []
-blockRowsFrom n k j (l ∷ ls) = blockRow n k j l ∷ blockRowsFrom n k (suc j) ls
+unfoldable pub blockRowsFrom : Form → ℕ → ℕ → ℕ → List Line → List Row
+blockRowsFrom form n k j [] = []
+blockRowsFrom form n k j (l ∷ ls) = blockRow form n k j l ∷ blockRowsFrom form n k (suc j) ls
 
-abbrev pub blockRows : Group Line → List Row
-blockRows g = blockRowsFrom (stopsIn g) (linesIn g) 1 (members g)
+abbrev pub blockRows : Form → Group Line → List Row
+blockRows form g = blockRowsFrom form (stopsIn g) (linesIn g) 1 (members g)
 
-unfoldable pub blocksRows : List (Group Line) → List Row
-blocksRows [] = []
-blocksRows (g ∷ gs) = blockRows g ++ blocksRows gs
+unfoldable pub blocksRows : Form → List (Group Line) → List Row
+blocksRows form [] = []
+blocksRows form (g ∷ gs) = blockRows form g ++ blocksRows form gs
 
 -- the blocks of a file: each opens with a line beginning `#` and runs to the next such or the end
 abbrev pub blocksOf : List Line → List (Group Line)
@@ -58,18 +60,11 @@ abbrev pub asBlock : List ℕ → Group Line
 asBlock b = record { top = getD (lines b) 0 noLine; rest = drop 1 (lines b) }
 
 -- the rows after the first line
-abbrev pub laterRows : ℕ → File → List Line → List Row
-laterRows days Delivery ls = []
-laterRows days Company ls = map (rowOf days Company) ls
-laterRows days Country ls = map (rowOf days Country) ls
-laterRows days Trnsmode ls = map (rowOf days Trnsmode) ls
-laterRows days Timezone ls = map (rowOf days Timezone) ls
-laterRows days Stations ls = map (rowOf days Stations) ls
-laterRows days Footnote ls = map (rowOf days Footnote) ls
-laterRows days Timetbls ls = blocksRows (blocksOf ls)
-laterRows days Changes ls = map (rowOf days Changes) ls
-laterRows days Xfootnote ls = map (rowOf days Xfootnote) ls
-laterRows days Xchanges ls = map (rowOf days Xchanges) ls
+abbrev pub laterRows : Form → File → List Line → List Row
+laterRows form Delivery ls = []
+laterRows form (Rows f) ls = map (rowOf form (Rows f)) ls
+laterRows form (Groups f) ls = map (rowOf form (Groups f)) ls
+laterRows form Timetbls ls = blocksRows form (blocksOf ls)
 
 -- whether the keys of a file rise, 1 or 0
 abbrev pub flag : Bool → ℕ
@@ -79,62 +74,38 @@ flag false = 0
 -- the first line of a file is block 0, line 1: in TIMETBLS its row has the line's number too
 abbrev pub lineOne : File → List ℕ
 lineOne Delivery = []
-lineOne Company = []
-lineOne Country = []
-lineOne Trnsmode = []
-lineOne Timezone = []
-lineOne Stations = []
-lineOne Footnote = []
+lineOne (Rows f) = []
+lineOne (Groups f) = []
 lineOne Timetbls = 1 ∷ []
-lineOne Changes = []
-lineOne Xfootnote = []
-lineOne Xchanges = []
 
 -- the first line's row: its kept fields, and whether the keys of the rows after it rise
 unfoldable pub firstRowOf : File → Bool → Line → Row
 firstRowOf f rises l = padded (rowWidth f) (at ∷ (words 0 (l .body) firstFields ++ (flag rises ∷ lineOne f)))
 
-unfoldable pub rowsOfLines : ℕ → File → List Line → List Row
-rowsOfLines days f [] = []
-rowsOfLines days f (l ∷ ls) = firstRowOf f (rising (keysOf f (laterRows days f ls))) l ∷ laterRows days f ls
+unfoldable pub rowsOfLines : Form → File → List Line → List Row
+rowsOfLines form f [] = []
+rowsOfLines form f (l ∷ ls) = firstRowOf f (rising (keysOf f (laterRows form f ls))) l ∷ laterRows form f ls
 
--- the days of validity that a first line's row names
-abbrev pub daysOf : Row → ℕ
-daysOf r = span (word r 2) (word r 3)
+-- the form of the delivery that a first line's row begins: its days of validity
+unfoldable pub formOf : Row → Form
+formOf r = form424 (span (firstDay r) (lastDay r))
 
 abbrev pub firstOf : List Row → Row
 firstOf rs = getD rs 0 []
 
+-- DELIVERY has its first line alone, whose columns depend on no form
 abbrev pub deliveryRows : List ℕ → List Row
-deliveryRows text = rowsOfLines 0 Delivery (lines text)
+deliveryRows text = rowsOfLines (form424 0) Delivery (lines text)
 
 -- the rows of eleven files
 abbrev pub rowsOfFiles : PerFile (List ℕ) → PerFile (List Row)
-rowsOfFiles F = perFile (λ f. rowsOfLines (daysOf (firstOf (deliveryRows (F .delivery)))) f (lines (of F f)))
+rowsOfFiles F = perFile (λ f. rowsOfLines (formOf (firstOf (deliveryRows (F .delivery)))) f (lines (of F f)))
 
--- WHAT THE RULES ASK OF THE OTHER FILES: the days of validity, and the keys
+-- WHAT THE RULES ASK OF THE OTHER FILES: the form of the lines, and each file's keys
 pub record Context : Type 0 where
-  pub days : ℕ
-  pub companies : List ℕ
-  pub countries : List ℕ
-  pub modes : List ℕ
-  pub zones : List ℕ
-  pub stations : List ℕ
-  pub footnotes : List ℕ
-  pub services : List ℕ
-  pub xfootnotes : List ℕ
+  pub form : Form
+  pub keys : File → List ℕ
 
 -- the same of text and of tables: both give rows
 unfoldable pub contextOf : PerFile (List Row) → Context
-contextOf R =
-    record {
-      days = daysOf (firstOf (R .delivery));
-      companies = keysOf Company (R .company);
-      countries = keysOf Country (R .country);
-      modes = keysOf Trnsmode (R .trnsmode);
-      zones = keysOf Timezone (R .timezone);
-      stations = keysOf Stations (R .stations);
-      footnotes = keysOf Footnote (R .footnote);
-      services = keysOf Timetbls (R .timetbls);
-      xfootnotes = keysOf Xfootnote (R .xfootnote);
-    }
+contextOf R = record { form = formOf (firstOf (R .delivery)); keys = λ f. keysOf f (of R f) }

@@ -5,21 +5,27 @@ use mathlib.Core.Bool.{Bool, true, false, _&&_, cond}
 use lib.ListN.{length, getD, take, drop}
 use lib.Dec.{eqb, ltb, leb}
 use Rattle.iff.specs.Bytes.{hash, at}
-use Rattle.iff.specs.Lists.{Group, front, groups, members, all, allOf, total, has, same}
+use Rattle.iff.specs.Lists.{Group, front, groups, members, all, allOf, total, same}
 use Rattle.iff.specs.Files.{PerFile, of, perFile, inOrder, needed, limit}
 use Rattle.iff.specs.Columns.{Field, firstFields, fieldsOf, picture}
 use Rattle.iff.specs.Values.{wordsRight, wordCount}
-use Rattle.iff.specs.Tables.{Row, word, tag, isHashRow, rowWidth, rowsIn, allZero, keysOf, rising}
+use Rattle.iff.specs.Tables.{Row, tag, letterless, isHashRow, rowWidth, rowsIn, allZero, keysOf, rising}
+use Rattle.iff.specs.Words.{ownCompany, rises, named, lineNumber, lineCount, stopCount}
+use Rattle.iff.specs.declared.RowFile.{RowFile}
+use Rattle.iff.specs.declared.RowFile.the-variants.{Company, Country, Trnsmode, Stations}
+use Rattle.iff.specs.declared.GroupFile.{GroupFile}
+use Rattle.iff.specs.declared.GroupFile.the-variants.{Timezone, Footnote, Changes, Xfootnote, Xchanges}
 use Rattle.iff.specs.declared.File.{File}
-use Rattle.iff.specs.declared.File.the-variants.{Delivery, Company, Country, Trnsmode, Timezone, Stations, Footnote, Timetbls, Changes, Xfootnote, Xchanges}
+use Rattle.iff.specs.declared.File.the-variants.{Delivery, Rows, Groups, Timetbls}
 use Rattle.iff.specs.declared.Stand.{Stand}
 use Rattle.iff.specs.declared.InBlock.{InBlock}
-use Rattle.iff_rules.specs.Order.{known, mayFollow, least, goes, isGoes, finished, isStop}
+use Rattle.iff.specs.declared.Form.{Form}
+use Rattle.iff_rules.specs.Order.{mayFollow, groupStand, mayEnd, goes, isGoes, finished, isStop}
 use Rattle.iff_rules.specs.Rows.{flag, lineOne, Context, contextOf, firstOf}
-use Rattle.iff_rules.specs.Meaning.{firstMeaning, meaning}
+use Rattle.iff_rules.specs.Meaning.{firstMeaning, rowMeaning, groupMeaning, blockMeaning}
 use Rattle.iff_rules.specs.Unique.{freshKey, freshInGroup}
-use Rattle.iff_rules.specs.References.{met}
-use Rattle.iff_rules.specs.Legs.{stopsOf, legs}
+use Rattle.iff_rules.specs.References.{names, metByRow, metInGroup, metInBlock}
+use Rattle.iff_rules.specs.Legs.{stopsOf, reachOf, legs}
 use Rattle.iff_rules.specs.Load.{blockStart, blockMoves}
 
 -- the entries of a list in turn, each in the state that those before it leave: all pass
@@ -44,49 +50,49 @@ soundFirst f delivery r later =
     ∷ wordsRight (drop 1 r) firstFields
     ∷ firstMeaning r
     ∷ same (take 5 r) (take 5 delivery)
-    ∷ eqb (word r 5) (flag (rising (keysOf f later)))
+    ∷ eqb (rises r) (flag (rising (keysOf f later)))
     ∷ same (take (length (lineOne f)) (drop 6 r)) (lineOne f)
     ∷ allZero (drop (6 + length (lineOne f)) r)
     ∷ [])
 
 -- A ROW of a file without record letters, after some rows
-unfoldable pub soundPlainRow : Context → File → List Row → Row → Bool
+unfoldable pub soundPlainRow : Context → RowFile → List Row → Row → Bool
 soundPlainRow c f earlier r =
     allOf
-    (eqb (tag r) 1
-    ∷ shaped (fieldsOf (c .days) f (tag r)) r
-    ∷ meaning f (length earlier) r
-    ∷ freshKey f (keysOf f earlier) r
-    ∷ met c f r
+    (eqb (tag r) letterless
+    ∷ shaped (fieldsOf (c .form) (Rows f) (tag r)) r
+    ∷ rowMeaning f (length earlier) r
+    ∷ freshKey (Rows f) (keysOf (Rows f) earlier) r
+    ∷ metByRow c f r
     ∷ [])
 
-abbrev pub soundPlain : Context → File → List Row → Bool
+abbrev pub soundPlain : Context → RowFile → List Row → Bool
 soundPlain c f rs = passes (soundPlainRow c f) (λ earlier r. earlier ++ (r ∷ [])) [] rs
 
 -- A ROW OF A GROUP
-unfoldable pub soundGroupRow : Context → File → List ℕ → List Row → Row → Bool
+unfoldable pub soundGroupRow : Context → GroupFile → List ℕ → List Row → Row → Bool
 soundGroupRow c f seen earlier r =
     allOf
-    (mayFollow f (length earlier) (tag r)
-    ∷ shaped (fieldsOf (c .days) f (tag r)) r
-    ∷ meaning f (length earlier) r
-    ∷ freshKey f seen r
+    (mayFollow f (groupStand earlier) (tag r)
+    ∷ shaped (fieldsOf (c .form) (Groups f) (tag r)) r
+    ∷ groupMeaning f r
+    ∷ freshKey (Groups f) seen r
     ∷ freshInGroup f (drop 1 earlier) r
-    ∷ met c f r
+    ∷ metInGroup c f r
     ∷ [])
 
-unfoldable pub soundGroup : Context → File → List ℕ → Group Row → Bool
+unfoldable pub soundGroup : Context → GroupFile → List ℕ → Group Row → Bool
 soundGroup c f seen g =
-    passes (soundGroupRow c f seen) (λ earlier r. earlier ++ (r ∷ [])) [] (members g) && leb (least f) (length (members g))
+    passes (soundGroupRow c f seen) (λ earlier r. earlier ++ (r ∷ [])) [] (members g) && mayEnd f (groupStand (members g))
 
 abbrev pub empty : List Row → Bool
 empty [] = true
 empty (r ∷ rs) = false
 
 abbrev pub seeing : List ℕ → Group Row → List ℕ
-seeing seen g = seen ++ (word (g .top) 1 ∷ [])
+seeing seen g = seen ++ (named (g .top) ∷ [])
 
-unfoldable pub soundGroups : Context → File → List Row → Bool
+unfoldable pub soundGroups : Context → GroupFile → List Row → Bool
 soundGroups c f rs = empty (front isHashRow rs) && passes (soundGroup c f) seeing [] (groups isHashRow rs)
 
 -- A ROW OF A TIMETBLS BLOCK: its number in the block is its last word; the `#` row counts the block's lines and stops beside its own field
@@ -101,11 +107,11 @@ unfoldable pub soundBlockRow : Context → List ℕ → InRows → Row → Bool
 soundBlockRow c seen st r =
     allOf
     (isGoes (goes (st .block .stand) (tag r))
-    ∷ shaped (fieldsOf (c .days) Timetbls (tag r)) (ownWords r)
-    ∷ eqb (word r 6) (st .line)
-    ∷ meaning Timetbls (st .block .stops) r
+    ∷ shaped (fieldsOf (c .form) Timetbls (tag r)) (ownWords r)
+    ∷ eqb (lineNumber r) (st .line)
+    ∷ blockMeaning (st .block .stops) r
     ∷ freshKey Timetbls seen r
-    ∷ met c Timetbls r
+    ∷ metInBlock c r
     ∷ [])
 
 abbrev pub nextRow : InRows → Row → InRows
@@ -124,9 +130,9 @@ soundBlock c seen g =
     allOf
     (passes (soundBlockRow c seen) nextRow rowsStart (members g)
     ∷ finished (standAfterRows blockStart (members g))
-    ∷ legs (members g)
-    ∷ eqb (word (g .top) 2) (length (members g))
-    ∷ eqb (word (g .top) 3) (stopsOf (members g))
+    ∷ legs reachOf (members g)
+    ∷ eqb (lineCount (g .top)) (length (members g))
+    ∷ eqb (stopCount (g .top)) (stopsOf (members g))
     ∷ [])
 
 unfoldable pub soundTimetbls : Context → List Row → Bool
@@ -135,20 +141,13 @@ soundTimetbls c rs = empty (front isHashRow rs) && passes (soundBlock c) seeing 
 -- the rows after the first line's
 abbrev pub soundLater : Context → File → List Row → Bool
 soundLater c Delivery rs = empty rs
-soundLater c Company rs = soundPlain c Company rs
-soundLater c Country rs = soundPlain c Country rs
-soundLater c Trnsmode rs = soundPlain c Trnsmode rs
-soundLater c Timezone rs = soundGroups c Timezone rs
-soundLater c Stations rs = soundPlain c Stations rs
-soundLater c Footnote rs = soundGroups c Footnote rs
+soundLater c (Rows f) rs = soundPlain c f rs
+soundLater c (Groups f) rs = soundGroups c f rs
 soundLater c Timetbls rs = soundTimetbls c rs
-soundLater c Changes rs = soundGroups c Changes rs
-soundLater c Xfootnote rs = soundGroups c Xfootnote rs
-soundLater c Xchanges rs = soundGroups c Xchanges rs
 
 -- the bytes of the line that a row stands for, with its CR LF
-abbrev pub rowSize : ℕ → File → Row → ℕ
-rowSize days f r = length (picture (fieldsOf days f (tag r))) + 2
+abbrev pub rowSize : Form → File → Row → ℕ
+rowSize form f r = length (picture (fieldsOf form f (tag r))) + 2
 
 abbrev pub firstSize : ℕ
 firstSize = length (picture firstFields) + 2
@@ -159,14 +158,18 @@ soundRows c delivery f (r ∷ rs) =
     allOf
     (soundFirst f delivery r rs
     ∷ soundLater c f rs
-    ∷ leb (firstSize + total (rowSize (c .days) f) rs) limit
+    ∷ leb (firstSize + total (rowSize (c .form) f) rs) limit
     ∷ [])
+
+-- which tables hold rows
+abbrev pub heldIn : PerFile (List Row) → File → Bool
+heldIn R f = ltb 0 (length (of R f))
 
 -- one table: its rows are sound, there are some where they are needed, and unused places are zero
 unfoldable pub soundTable : Context → PerFile (List Row) → File → List ℕ → Bool
 soundTable c R f t =
     allOf
-    (cond (needed (ltb 0 (length (R .xchanges))) f) (ltb 0 (length (of R f))) true
+    (cond (needed (heldIn R) f) (heldIn R f) true
     ∷ soundRows c (firstOf (R .delivery)) f (of R f)
     ∷ allZero (drop (length (of R f) * rowWidth f) t)
     ∷ [])
@@ -176,4 +179,4 @@ unfoldable pub sound : PerFile (List ℕ) → Bool
 sound T =
     let R = rowsOfTables T in
     let c = contextOf R in
-    all (λ f. soundTable c R f (of T f)) inOrder && has (word (firstOf (R .delivery)) 1) (c .companies)
+    all (λ f. soundTable c R f (of T f)) inOrder && names c (Rows Company) (ownCompany (firstOf (R .delivery)))

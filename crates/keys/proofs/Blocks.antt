@@ -22,11 +22,13 @@ block-in-rows w n t i (suc k) h =
     let b : i < length (rowsUpTo w n t) = omega arith in
     rw (drop-cons (rowsUpTo w n t) i [] b, row-is w n t i b, block-in-rows w n t (suc i) k (omega arith))
 
-pub between-in-table : (w : ℕ) (t : List ℕ) (from to : ℕ) → from ≤ to → to ≤ length (rowsOfWidth w t) → rowsBetween w t from to ≡ take (to - from) (drop from (rowsOfWidth w t))
+pub between-in-table : (w : ℕ) (t : List ℕ) (from to : ℕ) → from ≤ to → to ≤ length (rowsOfWidth w t)
+    → rowsBetween w t from to ≡ take (to - from) (drop from (rowsOfWidth w t))
 between-in-table w t from to l h = block-in-rows w (length t / w) t from (to - from) (omega arith)
 
 -- and among those that it was filled with
-pub between-in-fill : (w : ℕ) → 0 < w → (n : ℕ) (rs : List Row) → Each (Used w) rs → length rs * w ≤ n → (from to : ℕ) → from ≤ to → to ≤ length rs → rowsBetween w (fill w n rs) from to ≡ take (to - from) (drop from rs)
+pub between-in-fill : (w : ℕ) → 0 < w → (n : ℕ) (rs : List Row) → Each (Used w) rs → length rs * w ≤ n → (from to : ℕ) → from ≤ to → to ≤ length rs
+    → rowsBetween w (fill w n rs) from to ≡ take (to - from) (drop from rs)
 between-in-fill w s n rs u h from to l g =
     let e = rows-in-fill w s n rs u h in
     between-in-table w (fill w n rs) from to l (rw e g) ∙ ap (λ (l : List Row). take (to - from) (drop from l)) e

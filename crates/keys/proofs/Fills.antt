@@ -16,7 +16,8 @@ use Rattle.keys.specs.Runs.{stepRun, runOf}
 use Rattle.keys.proofs.Runs.{run-next}
 
 -- a filled table names what its rows name
-pub keys-in-fill : (f : File) (n : ℕ) (rs : List Row) → Each (Used (rowWidth f)) rs → length rs * rowWidth f ≤ n → keysIn f (fill (rowWidth f) n rs) ≡ keysOf f rs
+pub keys-in-fill : (f : File) (n : ℕ) (rs : List Row) → Each (Used (rowWidth f)) rs → length rs * rowWidth f ≤ n
+    → keysIn f (fill (rowWidth f) n rs) ≡ keysOf f rs
 keys-in-fill f n rs u h = ap (keysOf f) (rows-in-fill (rowWidth f) (widths f .some) n rs u h)
 
 module _ (f : File) where
@@ -30,7 +31,8 @@ module _ (f : File) where
   keys-append (r ∷ rs) qs = go (isKeyRow f r) (keys-append rs qs)
     where
       go : (b : Bool) → keysOf f (rs ++ qs) ≡ keysOf f rs ++ keysOf f qs
-          → keyIn (cond b (r ∷ kept (isKeyRow f) (rs ++ qs)) (kept (isKeyRow f) (rs ++ qs))) ≡ keyIn (cond b (r ∷ kept (isKeyRow f) rs) (kept (isKeyRow f) rs)) ++ keysOf f qs
+          → keyIn (cond b (r ∷ kept (isKeyRow f) (rs ++ qs)) (kept (isKeyRow f) (rs ++ qs)))
+          ≡ keyIn (cond b (r ∷ kept (isKeyRow f) rs) (kept (isKeyRow f) rs)) ++ keysOf f qs
       go true e = ap (λ (l : List ℕ). word r (keyWord f) ∷ l) e
       go false e = e
 
@@ -39,7 +41,8 @@ module _ (f : File) where
   unfolding kept
   keys-next rs r e = keys-append rs (r ∷ []) ∙ rw e
 
-  pub run-key : (rs : List Row) (r : Row) → isKeyRow f r ≡ true → runOf (keysOf f (rs ++ (r ∷ []))) ≡ stepRun (runOf (keysOf f rs)) (word r (keyWord f))
+  pub run-key : (rs : List Row) (r : Row) → isKeyRow f r ≡ true
+      → runOf (keysOf f (rs ++ (r ∷ []))) ≡ stepRun (runOf (keysOf f rs)) (word r (keyWord f))
   run-key rs r e = rw (keys-next rs r e) (run-next (keysOf f rs) (word r (keyWord f)))
 
   -- or nothing

@@ -6,3 +6,4 @@ pub mod Blocks
 -- laws of the functions
 pub mod Among
 pub mod MarkLaws
+pub mod CountLaws

@@ -1,6 +1,6 @@
 -- A table names a key exactly when one of its rows is keyed by it. Assumes nothing.
 use Prim.Native.Nat.{ℕ, _<_}
-use mathlib.Core.Path.{_≡_, ap, sym, _∙_}
+use mathlib.Core.Path.{_≡_, sym, _∙_}
 use mathlib.Core.List.{List}
 use mathlib.Core.Bool.{Bool}
 use Rattle.iff.specs.declared.File.{File}
@@ -9,10 +9,6 @@ use Rattle.iff.specs.Tables.{rowWidth, rowsOfWidth, rowsIn, keyTag, keyWord, ke
 use Rattle.tables.proofs.Widths.{widths}
 use Rattle.tables.proofs.Keys.{has-keys}
 use Rattle.keys.specs.Lookup.{keysIn}
-
--- the width of a row of a file that is known by name
-pub as-width : (f g : File) → f ≡ g → (n : ℕ) → n ≡ rowWidth f → n ≡ rowWidth g
-as-width f g told n e = e ∙ ap rowWidth told
 
 module _ (f : File) (w tag col : ℕ) (v : w ≡ rowWidth f) (g : tag ≡ keyTag f) (m : col ≡ keyWord f) where
   -- the lookup asks for the file's own tag and word, in rows of its width

@@ -52,7 +52,8 @@ last-one [] k j e f = go (eqb j k) refl e
     go false q e = absurd (false≢true e)
 last-one (x ∷ keys) k j e f = go (eqb j x) e f (last-one keys k j)
   where
-    go : (b : Bool) → (b || has j (keys ++ (k ∷ []))) ≡ true → (b || has j keys) ≡ false → (has j (keys ++ (k ∷ [])) ≡ true → has j keys ≡ false → j ≡ k) → j ≡ k
+    go : (b : Bool) → (b || has j (keys ++ (k ∷ []))) ≡ true → (b || has j keys) ≡ false
+        → (has j (keys ++ (k ∷ [])) ≡ true → has j keys ≡ false → j ≡ k) → j ≡ k
     go true e f ih = absurd (false≢true (sym f))
     go false e f ih = ih e f
 
@@ -72,8 +73,12 @@ marked-next marks keys k m =
 
     one : (j : ℕ) → has j (keys ++ (k ∷ [])) ≡ true → (b : Bool) → has j keys ≡ b → getD (withMarks marks k) (slotOf j) 0 ≡ 1
     one j e true q = marked-still once (otherOf k) (slotOf j) (marked-still marks (slotOf k) (slotOf j) (m .one j q))
-    one j e false q = rw (last-one keys k j e q) (marked-still once (otherOf k) (slotOf k) (getD-set-same marks (slotOf k) 1 0 (omega (arith, m .wide, slot-inside k))))
+    one j e false q =
+        rw (last-one keys k j e q)
+        (marked-still once (otherOf k) (slotOf k) (getD-set-same marks (slotOf k) 1 0 (omega (arith, m .wide, slot-inside k))))
 
     other : (j : ℕ) → has j (keys ++ (k ∷ [])) ≡ true → (b : Bool) → has j keys ≡ b → getD (withMarks marks k) (otherOf j) 0 ≡ 1
     other j e true q = marked-still once (otherOf k) (otherOf j) (marked-still marks (slotOf k) (otherOf j) (m .other j q))
-    other j e false q = rw (last-one keys k j e q) (getD-set-same once (otherOf k) 1 0 (omega (arith, m .wide, length-set marks (slotOf k) 1, other-inside k)))
+    other j e false q =
+        rw (last-one keys k j e q)
+        (getD-set-same once (otherOf k) 1 0 (omega (arith, m .wide, length-set marks (slotOf k) 1, other-inside k)))

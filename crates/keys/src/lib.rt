@@ -1,18 +1,16 @@
 // The keys of tables: looked up, and told to be new.
 ghost use mathlib.Core.Path.{_≡_};
-ghost use mathlib.Core.List.{[], _∷_};
-ghost use mathlib.Core.Bool.{true, not};
+ghost use mathlib.Core.Bool.{true, cond, not};
 ghost use Prim.Native.Nat.{_+_, _*_, _/_, _<_, _≤_};
 ghost use lib.Dec.{eqb};
 ghost use lib.ListN.{length};
+ghost use Rattle.iff.specs.Bytes.{hash};
 ghost use Rattle.iff.specs.Lists.{has};
 ghost use Rattle.iff.specs.Tables.{rowWidth, rowsIn, keyTag, keyWord};
 ghost use Rattle.iff.specs.declared.File.the-variants.{Timetbls};
-ghost use Rattle.keys.specs.Lookup.{keysIn, atMost, keysAmong};
+ghost use Rattle.keys.specs.Lookup.{keysIn, atMost, keysAmong, HitRow, FoundRow};
 ghost use Rattle.keys.specs.Marks.{slots, slotOf, otherOf, withMarks, Marked};
 ghost use Rattle.keys.specs.Runs.{noKeys, stillRises, stepRun, runOf};
-
-const HASH: u64 = 35;
 
 // KEYS
 
@@ -21,17 +19,10 @@ fn key_tag(file: iff::File) -> u64
     ensures { λ r. ⌜ r ≡ keyTag file ⌝ }
 {
     match file {
-        iff::File::Delivery => 1,
-        iff::File::Company => 1,
-        iff::File::Country => 1,
-        iff::File::Trnsmode => 1,
-        iff::File::Timezone => HASH,
-        iff::File::Stations => 1,
-        iff::File::Footnote => HASH,
-        iff::File::Timetbls => HASH,
-        iff::File::Changes => HASH,
-        iff::File::Xfootnote => HASH,
-        iff::File::Xchanges => HASH,
+        iff::File::Delivery => iff::tags::LETTERLESS,
+        iff::File::Rows(_) => iff::tags::LETTERLESS,
+        iff::File::Groups(_) => iff::tags::HASH,
+        iff::File::Timetbls => iff::tags::HASH,
     }
 }
 
@@ -40,17 +31,15 @@ pub fn key_word(file: iff::File) -> usize
     ensures { λ r. ⌜ r ≡ keyWord file ⌝ }
 {
     match file {
-        iff::File::Delivery => 1,
-        iff::File::Company => 1,
-        iff::File::Country => 1,
-        iff::File::Trnsmode => 1,
-        iff::File::Timezone => 1,
-        iff::File::Stations => 2,
-        iff::File::Footnote => 1,
-        iff::File::Timetbls => 1,
-        iff::File::Changes => 1,
-        iff::File::Xfootnote => 1,
-        iff::File::Xchanges => 1,
+        iff::File::Delivery => iff::words::OWN_COMPANY,
+        iff::File::Rows(rows) => match rows {
+            iff::RowFile::Company => iff::words::COMPANY_NUMBER,
+            iff::RowFile::Country => iff::words::NAMED,
+            iff::RowFile::Trnsmode => iff::words::NAMED,
+            iff::RowFile::Stations => iff::words::SHORT_NAME,
+        },
+        iff::File::Groups(_) => iff::words::NAMED,
+        iff::File::Timetbls => iff::words::NAMED,
     }
 }
 
@@ -63,8 +52,6 @@ pub fn names(file: iff::File, t: &[u64], key: u64) -> bool
     let col = key_word(file);
     tables::has_key(t, w, tag, col, key)
 }
-
-// A SEARCH BY HALVES
 
 // How many rows of a table are in use.
 pub fn used_rows(file: iff::File, t: &[u64]) -> usize
@@ -99,10 +86,10 @@ fn footnote_head(i: usize) -> usize
 
 // A row of TIMETBLS tells the line's number in its block, so that its `#` is found in one step. A number that leads out of the table is no help.
 fn block_head(t: &[u64], i: usize) -> usize
-    requires { ⌜ i * 7 + 7 ≤ length (now t) ⌝ }
+    requires { ⌜ i * rowWidth Timetbls + rowWidth Timetbls ≤ length (now t) ⌝ }
     ensures { λ r. ⌜ r ≤ i ⌝ }
 {
-    let line = tables::word_at(t, 7, i, 6) as usize;
+    let line = tables::word_at(t, tables::BLOCK_WIDTH, i, iff::words::LINE_NUMBER) as usize;
     if line == 0 {
         return i;
     }
@@ -112,6 +99,20 @@ fn block_head(t: &[u64], i: usize) -> usize
     i - (line - 1)
 }
 
+// Of the files of groups only those of footnotes have rows at fixed places.
+fn group_head(file: iff::GroupFile, i: usize) -> usize
+    requires { ⌜ 0 < i ⌝ }
+    ensures { λ r. ⌜ r ≤ i ⌝ }
+{
+    match file {
+        iff::GroupFile::Timezone => i,
+        iff::GroupFile::Footnote => footnote_head(i),
+        iff::GroupFile::Changes => i,
+        iff::GroupFile::Xfootnote => footnote_head(i),
+        iff::GroupFile::Xchanges => i,
+    }
+}
+
 // The row that names what row `i` belongs to. It is where a search looks, and nothing rests on its being right.
 fn head_row(file: iff::File, t: &[u64], i: usize) -> usize
     requires { ⌜ (0 < i) × (i * rowWidth file + rowWidth file ≤ length (now t)) ⌝ }
@@ -119,23 +120,18 @@ fn head_row(file: iff::File, t: &[u64], i: usize) -> usize
 {
     match file {
         iff::File::Delivery => i,
-        iff::File::Company => i,
-        iff::File::Country => i,
-        iff::File::Trnsmode => i,
-        iff::File::Timezone => i,
-        iff::File::Stations => i,
-        iff::File::Footnote => footnote_head(i),
+        iff::File::Rows(_) => i,
+        iff::File::Groups(group) => group_head(group, i),
         iff::File::Timetbls => block_head(t, i),
-        iff::File::Changes => i,
-        iff::File::Xfootnote => footnote_head(i),
-        iff::File::Xchanges => i,
     }
 }
 
-// A search by halves among the first rows, row 0 apart, which is the first line's. A row is tested before it is called found, so the answer true
+// SEARCHES, each of which answers the row
+
+// A search by halves among the first rows, row 0 apart, which is the first line's. A row is tested before it is called found, so what is found
 // leans on no order of the keys. Where they rise every key is found, and where they do not one may be missed: that is a matter of time alone.
-fn found_by_halves(file: iff::File, t: &[u64], used: usize, key: u64) -> bool
-    ensures { λ r. ⌜ (r ≡ true → has key (keysAmong file used (now (t .entry))) ≡ true) ⌝ }
+fn found_by_halves(file: iff::File, t: &[u64], used: usize, key: u64) -> iff::RowOf
+    ensures { λ r. ⌜ HitRow file used (now (t .entry)) key r ⌝ }
 {
     let w = tables::row_width(file);
     let tag = key_tag(file);
@@ -147,7 +143,7 @@ fn found_by_halves(file: iff::File, t: &[u64], used: usize, key: u64) -> bool
         let middle = low + (high - low) / 2;
         let at = head_row(file, t, middle);
         if tables::keyed_at(t, w, at, tag, col, key) {
-            return true;
+            return iff::RowOf::Row(at);
         }
         if tables::word_at(t, w, at, col) < key {
             low = middle + 1;
@@ -155,12 +151,12 @@ fn found_by_halves(file: iff::File, t: &[u64], used: usize, key: u64) -> bool
             high = middle;
         }
     }
-    false
+    iff::RowOf::NoRow
 }
 
-// The same among all of the first rows, one after the other.
-fn found_by_scan(file: iff::File, t: &[u64], used: usize, key: u64) -> bool
-    ensures { λ r. ⌜ r ≡ has key (keysAmong file used (now (t .entry))) ⌝ }
+// The same among all of the first rows, one after the other, so that what it misses is not there.
+fn found_by_scan(file: iff::File, t: &[u64], used: usize, key: u64) -> iff::RowOf
+    ensures { λ r. ⌜ FoundRow file used (now (t .entry)) key r ⌝ }
 {
     let w = tables::row_width(file);
     let tag = key_tag(file);
@@ -169,19 +165,19 @@ fn found_by_scan(file: iff::File, t: &[u64], used: usize, key: u64) -> bool
     let mut i = 0;
     while i < rows {
         if tables::keyed_at(t, w, i, tag, col, key) {
-            return true;
+            return iff::RowOf::Row(i);
         }
         i += 1;
     }
-    false
+    iff::RowOf::NoRow
 }
 
 // Where the block after the one in row `i` begins, by the number of lines that its `#` tells; the end of the rows where a number leads nowhere.
 fn next_block(t: &[u64], rows: usize, i: usize) -> usize
-    requires { ⌜ (i < rows) × (i * 7 + 7 ≤ length (now t)) ⌝ }
+    requires { ⌜ (i < rows) × (i * rowWidth Timetbls + rowWidth Timetbls ≤ length (now t)) ⌝ }
     ensures { λ r. ⌜ (i < r) × (r ≤ rows) ⌝ }
 {
-    let lines = tables::word_at(t, 7, i, 2) as usize;
+    let lines = tables::word_at(t, tables::BLOCK_WIDTH, i, iff::words::LINE_COUNT) as usize;
     if lines == 0 {
         return rows;
     }
@@ -193,18 +189,25 @@ fn next_block(t: &[u64], rows: usize, i: usize) -> usize
 
 // A search over the blocks of TIMETBLS, from each `#` to the next. A row is tested before it is called found here too, so nothing rests on the
 // numbers of lines.
-fn found_by_blocks(t: &[u64], used: usize, key: u64) -> bool
-    ensures { λ r. ⌜ (r ≡ true → has key (keysAmong Timetbls used (now (t .entry))) ≡ true) ⌝ }
+fn found_by_blocks(t: &[u64], used: usize, key: u64) -> iff::RowOf
+    ensures { λ r. ⌜ HitRow Timetbls used (now (t .entry)) key r ⌝ }
 {
-    let rows = rows_among(t, 7, used);
+    let rows = rows_among(t, tables::BLOCK_WIDTH, used);
     let mut i = 1;
     while i < rows {
-        if tables::keyed_at(t, 7, i, HASH, 1, key) {
-            return true;
+        if tables::keyed_at(
+            t,
+            tables::BLOCK_WIDTH,
+            i,
+            iff::tags::HASH,
+            iff::words::NAMED,
+            key,
+        ) {
+            return iff::RowOf::Row(i);
         }
         i = next_block(t, rows, i);
     }
-    false
+    iff::RowOf::NoRow
 }
 
 // PLACES: the row of each key, as a hint. A row that it leads to is tested, so nothing rests on what stands there.
@@ -260,7 +263,7 @@ pub fn index_rows(file: iff::File, t: &[u64], used: usize, places: &mut [u32])
     let rows = rows_among(t, w, used);
     let mut i = 1;
     while i < rows {
-        if tables::word_at(t, w, i, 0) == tag {
+        if tables::word_at(t, w, i, iff::words::TAG) == tag {
             let key = tables::word_at(t, w, i, col);
             put_place(places, key, i);
         }
@@ -272,10 +275,10 @@ pub fn index_rows(file: iff::File, t: &[u64], used: usize, places: &mut [u32])
 pub fn index_services(t: &[u64], used: usize, places: &mut [u32])
     ensures { λ _. ⌜ length (now (places .exit)) ≡ length (now (places .entry)) ⌝ }
 {
-    let rows = rows_among(t, 7, used);
+    let rows = rows_among(t, tables::BLOCK_WIDTH, used);
     let mut i = 1;
     while i < rows {
-        let key = tables::word_at(t, 7, i, 1);
+        let key = tables::word_at(t, tables::BLOCK_WIDTH, i, iff::words::NAMED);
         put_place(places, key, i);
         i = next_block(t, rows, i);
     }
@@ -283,12 +286,12 @@ pub fn index_services(t: &[u64], used: usize, places: &mut [u32])
 
 // A look at the slots for a key. A free one ends it: the key is in none of those after it. A slot with a row of another table, which may be out of
 // range here, is passed over.
-fn found_by_place(file: iff::File, t: &[u64], used: usize, places: &[u32], key: u64) -> bool
-    ensures { λ r. ⌜ (r ≡ true → has key (keysAmong file used (now (t .entry))) ≡ true) ⌝ }
+fn found_by_place(file: iff::File, t: &[u64], used: usize, places: &[u32], key: u64) -> iff::RowOf
+    ensures { λ r. ⌜ HitRow file used (now (t .entry)) key r ⌝ }
 {
     let slots = places.len();
     if slots <= 8 {
-        return false;
+        return iff::RowOf::NoRow;
     }
     let w = tables::row_width(file);
     let tag = key_tag(file);
@@ -299,53 +302,109 @@ fn found_by_place(file: iff::File, t: &[u64], used: usize, places: &[u32], key: 
     while at < end {
         let row = place_row(places[at]);
         if row == 0 {
-            return false;
+            return iff::RowOf::NoRow;
         }
         if row < rows {
             if tables::keyed_at(t, w, row, tag, col, key) {
-                return true;
+                return iff::RowOf::Row(row);
             }
         }
         at += 1;
     }
-    false
+    iff::RowOf::NoRow
 }
 
-// The first `used` rows of TIMETBLS name this service: found at its place where there is an index, by halves where services rise, else from block to
-// block.
-pub fn names_service(t: &[u64], used: usize, places: &[u32], key: u64) -> bool
-    ensures { λ r. ⌜ r ≡ has key (keysAmong Timetbls used (now (t .entry))) ⌝ }
+// LOOKUPS: the row of a key among the first `used` rows of a table, whichever search finds it
+
+// By halves, and where that misses, row by row. A delivery that is accepted names only what is there, so where keys rise no scan is made.
+pub fn find_among(file: iff::File, t: &[u64], used: usize, key: u64) -> iff::RowOf
+    ensures { λ r. ⌜ FoundRow file used (now (t .entry)) key r ⌝ }
 {
-    if found_by_place(iff::File::Timetbls, t, used, places, key) {
-        return true;
+    match found_by_halves(file, t, used, key) {
+        iff::RowOf::Row(i) => iff::RowOf::Row(i),
+        iff::RowOf::NoRow => found_by_scan(file, t, used, key),
     }
-    if found_by_halves(iff::File::Timetbls, t, used, key) {
-        return true;
-    }
-    if found_by_blocks(t, used, key) {
-        return true;
-    }
-    found_by_scan(iff::File::Timetbls, t, used, key)
 }
 
-// The first `used` rows of a file's table name this key. A delivery that is accepted names only what is there, so where keys rise no scan is made.
+// The same with an index: at the key's place, whatever the order of the keys.
+pub fn find_at(file: iff::File, t: &[u64], used: usize, places: &[u32], key: u64) -> iff::RowOf
+    ensures { λ r. ⌜ FoundRow file used (now (t .entry)) key r ⌝ }
+{
+    match found_by_place(file, t, used, places, key) {
+        iff::RowOf::Row(i) => iff::RowOf::Row(i),
+        iff::RowOf::NoRow => find_among(file, t, used, key),
+    }
+}
+
+// A service in TIMETBLS: at its place where there is an index, by halves where services rise, else from block to block.
+pub fn find_service(t: &[u64], used: usize, places: &[u32], key: u64) -> iff::RowOf
+    ensures { λ r. ⌜ FoundRow Timetbls used (now (t .entry)) key r ⌝ }
+{
+    match found_by_place(iff::File::Timetbls, t, used, places, key) {
+        iff::RowOf::Row(i) => iff::RowOf::Row(i),
+        iff::RowOf::NoRow => match found_by_halves(iff::File::Timetbls, t, used, key) {
+            iff::RowOf::Row(i) => iff::RowOf::Row(i),
+            iff::RowOf::NoRow => match found_by_blocks(t, used, key) {
+                iff::RowOf::Row(i) => iff::RowOf::Row(i),
+                iff::RowOf::NoRow => found_by_scan(iff::File::Timetbls, t, used, key),
+            },
+        },
+    }
+}
+
+// Whether there is one.
 pub fn names_among(file: iff::File, t: &[u64], used: usize, key: u64) -> bool
     ensures { λ r. ⌜ r ≡ has key (keysAmong file used (now (t .entry))) ⌝ }
 {
-    if found_by_halves(file, t, used, key) {
-        return true;
+    match find_among(file, t, used, key) {
+        iff::RowOf::Row(_) => true,
+        iff::RowOf::NoRow => false,
     }
-    found_by_scan(file, t, used, key)
 }
 
-// The same with an index: found at the key's place, whatever the order of the keys.
 pub fn names_at(file: iff::File, t: &[u64], used: usize, places: &[u32], key: u64) -> bool
     ensures { λ r. ⌜ r ≡ has key (keysAmong file used (now (t .entry))) ⌝ }
 {
-    if found_by_place(file, t, used, places, key) {
-        return true;
+    match find_at(file, t, used, places, key) {
+        iff::RowOf::Row(_) => true,
+        iff::RowOf::NoRow => false,
     }
-    names_among(file, t, used, key)
+}
+
+pub fn names_service(t: &[u64], used: usize, places: &[u32], key: u64) -> bool
+    ensures { λ r. ⌜ r ≡ has key (keysAmong Timetbls used (now (t .entry))) ⌝ }
+{
+    match find_service(t, used, places, key) {
+        iff::RowOf::Row(_) => true,
+        iff::RowOf::NoRow => false,
+    }
+}
+
+// SERVICES COUNTED
+
+// 1 for the tag of a row that begins a block.
+fn one_for(tag: u64) -> u64
+    ensures { λ r. ⌜ r ≡ cond (eqb tag hash) 1 0 ⌝ }
+{
+    if tag == iff::tags::HASH { 1 } else { 0 }
+}
+
+// How many services TIMETBLS names: its rows that begin a block.
+pub fn count_services(t: &[u64]) -> u64
+    ensures { λ r. ⌜ r ≡ length (keysIn Timetbls (now (t .entry))) ⌝ }
+{
+    let rows = t.len() / tables::BLOCK_WIDTH;
+    let mut count: u64 = 0;
+    let mut i = 0;
+    while i < rows {
+        let tag = tables::word_at(t, tables::BLOCK_WIDTH, i, iff::words::TAG);
+        if tag == 0 {
+            return count;
+        }
+        count += one_for(tag);
+        i += 1;
+    }
+    count
 }
 
 // RUNS OF KEYS

@@ -8,12 +8,13 @@ use lib.Dec.{lit<, lit≤}
 use Rattle.iff.specs.Bytes.{allowed, digit}
 use Rattle.iff.specs.Lists.{all, any, all2, kept, total}
 use Rattle.iff.specs.Lines.{lines, before}
-use Rattle.iff.specs.Columns.{recordFields, recordOf, blockRecord, fieldsOf, pictureFrom, column, figure}
+use Rattle.iff.specs.Columns.{form424, recordFields, recordOf, blockRecord, fieldsOf, pictureFrom, column, figure}
 use Rattle.iff.specs.Values.{value, words, fieldWords, fieldRight, readable}
 use Rattle.iff.specs.Tables.{Row, padded}
-use Rattle.iff_rules.specs.Legs.{covered, inRange, legs}
+use Rattle.iff_rules.specs.Legs.{covered, reachOf, inRange, legs}
 use Rattle.iff_rules.specs.Rows.{blockRow, blockRowsFrom, blockRows, asBlock}
-use Rattle.legs.specs.Sight.{LegibleBlock, legible}
+use Rattle.records.specs.Layouts.{legible}
+use Rattle.legs.specs.Sight.{LegibleBlock}
 
 -- two stops, and one record of each kind that covers the leg between them
 abbrev block : List ℕ
@@ -28,12 +29,14 @@ block =
     ∷ 60 ∷ 117 ∷ 116 ∷ 32 ∷ 32 ∷ 32 ∷ 32 ∷ 32 ∷ 44 ∷ 48 ∷ 57 ∷ 51 ∷ 48 ∷ 13 ∷ 10
     ∷ []))
 
-legible-block : LegibleBlock block 2
-unfolding allowed digit all any all2 kept lines before recordFields recordOf blockRecord fieldsOf pictureFrom column figure fieldRight readable legible
+legible-block : LegibleBlock (form424 0) block 2
+unfolding allowed digit all any all2 kept lines before recordFields recordOf blockRecord fieldsOf pictureFrom column figure fieldRight readable
+    legible
 legible-block = record { some = lit< tt; stops = refl; few = lit≤ tt; each = refl }
 
-right-block : legs (blockRows (asBlock block)) ≡ true
-unfolding all any kept total lines before recordFields recordOf blockRecord fieldsOf value words fieldWords padded covered inRange legs blockRow blockRowsFrom
+right-block : legs reachOf (blockRows (form424 0) (asBlock block)) ≡ true
+unfolding all any kept total lines before recordFields recordOf blockRecord fieldsOf value words fieldWords padded covered inRange legs blockRow
+    blockRowsFrom
 right-block = refl
 
 -- P9, five stops: "001-004 with 004-005 covers; 001-003 with 004-005 lacks leg 3; 001-004 with 003-005 has it twice."

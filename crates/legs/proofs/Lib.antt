@@ -3,5 +3,4 @@ pub mod RowLaws
 pub mod LineLaws
 pub mod SpanLaws
 pub mod BlockLaws
-pub mod WordLaws
 pub mod Cases

@@ -10,7 +10,7 @@ use lib.Seq.{getD-set-same, getD-set-other}
 use borrow.Author.Tests.{eq-eqb, ne-eqb, eqb-true, eqb-false, le-leb, lt-leb, lt-ltb, le-ltb, ltb-true, ltb-false}
 use Rattle.iff_rules.specs.Legs.{one, covering, covered}
 use Rattle.iff.specs.Tables.{Row}
-use Rattle.legs.specs.Sight.{onceTo}
+use Rattle.legs.specs.Rows.{onceTo}
 use Rattle.legs.specs.Tally.{Tally}
 
 -- leg k lies from `first` up to `last`, 1 or 0
@@ -41,7 +41,7 @@ module _ (was is : List ℕ) (first last leg : ℕ) where
   Marking = (length is ≡ length was) × (first ≤ leg) × (leg ≤ last) × ((k : ℕ) → getD is k 0 ≡ getD was k 0 + within first leg k)
 
   -- a leg that is marked already
-  pub marked-twice : leg < last → (getD is leg 0 ≡ 0 → ⊥) → Marking → Tally first last (within first last) was is false
+  pub marked-twice : leg < last → 0 < getD is leg 0 → Marking → Tally first last (within first last) was is false
   marked-twice h q m =
       record {
         yes = λ e. absurd (let z : _≡_ {A = ℕ} 0 1 = cc in omega arith);
@@ -87,7 +87,9 @@ marking-next was is first last leg h n z m = (length-set is leg 1 ∙ m .0, omeg
         go : (b : Bool) → eqb k leg ≡ b → getD (set is leg 1) k 0 ≡ getD was k 0 + within first (leg + 1) k
         go true e =
             let q : k ≡ leg = eqb-true k leg e in
-            rw q (omega (arith, getD-set-same is leg 1 0 n, m .3 leg, within-not first leg leg (omega arith), within-yes first (leg + 1) leg (m .1) (omega arith)))
+            let w : within first leg leg ≡ 0 = within-not first leg leg (omega arith) in
+            let v : within first (leg + 1) leg ≡ 1 = within-yes first (leg + 1) leg (m .1) (omega arith) in
+            rw q (omega (arith, getD-set-same is leg 1 0 n, m .3 leg, w, v))
         go false e =
             let q = eqb-false k leg e in
             omega (arith, getD-set-other is leg k 1 0 q, m .3 k, within-next first leg k q)

@@ -7,60 +7,94 @@ use native.Mathlib.Omega.{arith}
 use lib.Dec.{eqb}
 use lib.ListN.{length, getD, drop, length-append, length-replicate, List·getD-append}
 use borrow.Author.Tests.{eqb-true}
-use Rattle.iff.specs.Bytes.{hash, percent, dash, ampersand}
+use Rattle.iff.specs.Bytes.{hash}
+use Rattle.iff.specs.Columns.{fieldsOf, recordOf, recordFields, blockRecord}
 use Rattle.iff.specs.Lists.{all, any, total, kept, members}
 use Rattle.iff.specs.Lines.{Line, lines, letter, isHash, noLine}
+use Rattle.iff.specs.Values.{words}
 use Rattle.iff.specs.Tables.{Row, word, tag, padded}
+use Rattle.iff.specs.declared.Form.{Form}
+use Rattle.iff.specs.declared.Record.{Record}
 use Rattle.iff.specs.declared.File.the-variants.{Timetbls}
 use Rattle.text.proofs.LineLaws.{lines-step}
 use Rattle.iff_rules.specs.Order.{isStop}
-use Rattle.iff_rules.specs.Legs.{covering, ofKind, ranged, inRange, stopsOf}
+use Rattle.iff_rules.specs.Legs.{Reach, covering, ofKind, reachOf, inRange, stopsOf}
 use Rattle.iff_rules.specs.Rows.{lineWords, counts, blockRow, blockRowsFrom, asBlock}
-use Rattle.legs.specs.Sight.{plainRow, lineInRange, covers, times, linesTimes}
+use Rattle.records.specs.Facts.{Legible}
+use Rattle.legs.specs.Rows.{covers, times}
+use Rattle.legs.specs.Sight.{recordWidth, CanBePut, lineRow, lineInRange, linesTimes}
+
+-- THE ROW OF A LINE'S RECORD
+pub line-tag : (form : Form) (n : ℕ) (b : List ℕ) → tag (lineRow form n b) ≡ getD b 0 0
+unfolding lineRow padded
+line-tag form n b = refl
+
+-- read by its letter's record
+pub reads-row : (form : Form) (body : List ℕ) (r : Record) (x : ℕ) → x ≡ getD body 0 0 → r ≡ blockRecord x → CanBePut form body
+    → (room : ℕ) → room ≡ recordWidth → Legible form r body room
+reads-row form body r x p q e room h = rw (q, p, h) e
+
+pub row-read : (form : Form) (n : ℕ) (body row : List ℕ) (r : Record) (x : ℕ) → x ≡ getD body 0 0 → r ≡ blockRecord x
+    → (room : ℕ) → room ≡ recordWidth → row ≡ padded room (x ∷ words n body (recordFields form r)) → row ≡ lineRow form n body
+unfolding lineRow
+row-read form n body row r x p q room h e = e ∙ rw (h, q, p)
 
 -- A ROW OF A BLOCK AND ITS LINE'S RECORD
-pub tag-is : (n c j : ℕ) (l : Line) → tag (blockRow n c j l) ≡ letter l
+pub tag-is : (form : Form) (n c j : ℕ) (l : Line) → tag (blockRow form n c j l) ≡ letter l
 unfolding blockRow padded
-tag-is n c j l = refl
+tag-is form n c j l = refl
 
-pub plain-tag : (n : ℕ) (b : List ℕ) → tag (plainRow n b) ≡ getD b 0 0
-unfolding plainRow padded
-plain-tag n b = refl
-
-wide : (ws : List ℕ) → 6 ≤ length (padded 6 ws)
+wide : (ws : List ℕ) → recordWidth ≤ length (padded recordWidth ws)
 unfolding padded
 wide ws = rw (length-append, length-replicate) (omega arith)
 
-number-last : (ws t : List ℕ) (j i : ℕ) → t ≡ [] → i < 6 → getD (padded 6 (ws ++ t) ++ (j ∷ [])) i 0 ≡ getD (padded 6 ws) i 0
-number-last ws t j i z h = rw (z, append-nil) (List·getD-append (padded 6 ws) (j ∷ []) 0 i (omega (arith, wide ws)))
+number-last : (ws t : List ℕ) (j i : ℕ) → t ≡ [] → i < recordWidth
+    → getD (padded recordWidth (ws ++ t) ++ (j ∷ [])) i 0 ≡ getD (padded recordWidth ws) i 0
+number-last ws t j i z h = rw (z, append-nil) (List·getD-append (padded recordWidth ws) (j ∷ []) 0 i (omega (arith, wide ws)))
+
+pub line-wide : (form : Form) (n : ℕ) (b : List ℕ) → 5 ≤ length (lineRow form n b)
+unfolding lineRow
+line-wide form n b = omega (arith, wide (getD b 0 0 ∷ words n b (recordFields form (blockRecord (getD b 0 0)))))
 
 -- but for `#`, which has counts, a row is its line's record and the line's number
-pub plain-word : (n c j : ℕ) (l : Line) → isHash l ≡ false → (i : ℕ) → i < 6 → word (blockRow n c j l) i ≡ word (plainRow n (l .body)) i
-unfolding blockRow plainRow
-plain-word n c j l e i h = number-last (lineWords n 0 Timetbls l) (counts n c (isHash l)) j i (rw e) h
+line-word : (form : Form) (n c j : ℕ) (l : Line) → isHash l ≡ false → (i : ℕ) → i < recordWidth
+    → word (blockRow form n c j l) i ≡ word (lineRow form n (l .body)) i
+unfolding blockRow lineRow fieldsOf recordOf
+line-word form n c j l e i h = number-last (lineWords n form Timetbls l) (counts n c (isHash l)) j i (rw e) h
 
--- what the test of the legs reads of a row is its letter and three words
+-- what the test of the legs reads of a row is its letter and the four words behind it
+pub record Words (r s : Row) : Type 0 where
+  pub one : word r 1 ≡ word s 1
+  pub two : word r 2 ≡ word s 2
+  pub three : word r 3 ≡ word s 3
+  pub four : word r 4 ≡ word s 4
+
 abbrev Alike : Row → Row → Type 0
-Alike r s = (tag r ≡ tag s) × (eqb (tag r) hash ≡ false → (word r 2 ≡ word s 2) × (word r 3 ≡ word s 3) × (word r 4 ≡ word s 4))
+Alike r s = (tag r ≡ tag s) × (eqb (tag r) hash ≡ false → Words r s)
 
-alike : (n c j : ℕ) (l : Line) → Alike (blockRow n c j l) (plainRow n (l .body))
-alike n c j l = (
-  tag-is n c j l ∙ sym (plain-tag n (l .body)),
+alike : (form : Form) (n c j : ℕ) (l : Line) → Alike (blockRow form n c j l) (lineRow form n (l .body))
+alike form n c j l = (
+  tag-is form n c j l ∙ sym (line-tag form n (l .body)),
   λ e.
-      let q : isHash l ≡ false = rw (tag-is n c j l) at e in
-      (plain-word n c j l q 2 (omega arith), plain-word n c j l q 3 (omega arith), plain-word n c j l q 4 (omega arith)),
+      let q : isHash l ≡ false = rw (tag-is form n c j l) at e in
+      record {
+        one = line-word form n c j l q 1 (omega arith);
+        two = line-word form n c j l q 2 (omega arith);
+        three = line-word form n c j l q 3 (omega arith);
+        four = line-word form n c j l q 4 (omega arith);
+      },
 )
 
-range-alike : (n : ℕ) (r s : Row) → Alike r s → inRange n r ≡ inRange n s
+range-alike : (reach : ℕ → Reach) (n : ℕ) (r s : Row) → Alike r s → inRange reach n r ≡ inRange reach n s
 unfolding inRange
-range-alike n r s a = go (eqb (tag r) hash) refl
+range-alike reach n r s a = go (eqb (tag r) hash) refl
   where
-    go : (b : Bool) → eqb (tag r) hash ≡ b → inRange n r ≡ inRange n s
+    go : (b : Bool) → eqb (tag r) hash ≡ b → inRange reach n r ≡ inRange reach n s
     go true e =
         let q : tag r ≡ hash = eqb-true (tag r) hash e in
         let p : tag s ≡ hash = sym (a .0) ∙ q in
         rw (q, p)
-    go false e = let w = a .1 e in rw (a .0, w .0, w .1, w .2)
+    go false e = let w = a .1 e in rw (a .0, w .one, w .two, w .three, w .four)
 
 pub covers-not-hash : (x : ℕ) → covers x ≡ true → eqb x hash ≡ false
 unfolding covers any
@@ -80,14 +114,15 @@ times-alike x k r s h a = go (eqb (tag r) x) refl
     go true e =
         let q : tag r ≡ x = eqb-true (tag r) x e in
         let w = a .1 (rw q h) in
-        rw (← a .0, w .0, w .1, w .2)
+        rw (← a .0, w .two, w .three, w .four)
     go false e = rw (← a .0, e)
 
 -- THE ROWS OF A BLOCK AND ITS LINES
-pub ranges : (n c j : ℕ) (ls : List Line) → all (inRange n) (blockRowsFrom n c j ls) ≡ all (lineInRange n) ls
+pub ranges : (form : Form) (n c j : ℕ) (ls : List Line) → all (inRange reachOf n) (blockRowsFrom form n c j ls) ≡ all (lineInRange form n) ls
 unfolding all blockRowsFrom lineInRange
-ranges n c j [] = refl
-ranges n c j (l ∷ ls) = rw (range-alike n (blockRow n c j l) (plainRow n (l .body)) (alike n c j l), ranges n c (suc j) ls)
+ranges form n c j [] = refl
+ranges form n c j (l ∷ ls) =
+    rw (range-alike reachOf n (blockRow form n c j l) (lineRow form n (l .body)) (alike form n c j l), ranges form n c (suc j) ls)
 
 -- the records of a kind, counted among all
 kind-times : (x k : ℕ) (rs : List Row) → covering k (ofKind x rs) ≡ total (times x k) rs
@@ -95,29 +130,32 @@ unfolding total kept times
 kind-times x k [] = refl
 kind-times x k (r ∷ rs) = go (eqb (tag r) x) refl (kind-times x k rs)
   where
-    go : (b : Bool) → eqb (tag r) x ≡ b → covering k (ofKind x rs) ≡ total (times x k) rs → covering k (ofKind x (r ∷ rs)) ≡ total (times x k) (r ∷ rs)
+    go : (b : Bool) → eqb (tag r) x ≡ b → covering k (ofKind x rs) ≡ total (times x k) rs
+        → covering k (ofKind x (r ∷ rs)) ≡ total (times x k) (r ∷ rs)
     go true e ih = rw (e, ih)
     go false e ih = rw (e, ih) (omega arith)
 
-lines-times : (x k n c j : ℕ) (ls : List Line) → eqb x hash ≡ false → total (times x k) (blockRowsFrom n c j ls) ≡ linesTimes n x ls k
+lines-times : (form : Form) (x k n c j : ℕ) (ls : List Line) → eqb x hash ≡ false
+    → total (times x k) (blockRowsFrom form n c j ls) ≡ linesTimes form n x ls k
 unfolding total blockRowsFrom
-lines-times x k n c j [] h = refl
-lines-times x k n c j (l ∷ ls) h = rw (times-alike x k (blockRow n c j l) (plainRow n (l .body)) h (alike n c j l), lines-times x k n c (suc j) ls h)
+lines-times form x k n c j [] h = refl
+lines-times form x k n c j (l ∷ ls) h =
+    rw (times-alike x k (blockRow form n c j l) (lineRow form n (l .body)) h (alike form n c j l), lines-times form x k n c (suc j) ls h)
 
-pub counted : (x k n c j : ℕ) (ls : List Line) → covers x ≡ true → linesTimes n x ls k ≡ covering k (ofKind x (blockRowsFrom n c j ls))
-counted x k n c j ls e = sym (kind-times x k (blockRowsFrom n c j ls) ∙ lines-times x k n c j ls (covers-not-hash x e))
+pub counted : (form : Form) (x k n c j : ℕ) (ls : List Line) → covers x ≡ true
+    → linesTimes form n x ls k ≡ covering k (ofKind x (blockRowsFrom form n c j ls))
+counted form x k n c j ls e = sym (kind-times x k (blockRowsFrom form n c j ls) ∙ lines-times form x k n c j ls (covers-not-hash x e))
 
 -- n, of rows and of lines
-pub stops-same : (n c j : ℕ) (ls : List Line) → stopsOf (blockRowsFrom n c j ls) ≡ length (kept (λ l. isStop (letter l)) ls)
+one-more : (b : Bool) (r : Row) (l : Line) (rs : List Row) (ls : List Line) → length rs ≡ length ls
+    → length (cond b (r ∷ rs) rs) ≡ length (cond b (l ∷ ls) ls)
+one-more true r l rs ls e = rw e
+one-more false r l rs ls e = e
+
+pub stops-same : (form : Form) (n c j : ℕ) (ls : List Line) → stopsOf (blockRowsFrom form n c j ls) ≡ length (kept (λ l. isStop (letter l)) ls)
 unfolding kept blockRowsFrom
-stops-same n c j [] = refl
-stops-same n c j (l ∷ ls) = rw (tag-is n c j l) (go (isStop (letter l)) refl (stops-same n c (suc j) ls))
-  where
-    go : (b : Bool) → isStop (letter l) ≡ b → stopsOf (blockRowsFrom n c (suc j) ls) ≡ length (kept (λ l′. isStop (letter l′)) ls)
-        → length (cond (isStop (letter l)) (blockRow n c j l ∷ kept (λ r. isStop (tag r)) (blockRowsFrom n c (suc j) ls)) (kept (λ r. isStop (tag r)) (blockRowsFrom n c (suc j) ls)))
-        ≡ length (cond (isStop (letter l)) (l ∷ kept (λ l′. isStop (letter l′)) ls) (kept (λ l′. isStop (letter l′)) ls))
-    go true e ih = rw (e, ih)
-    go false e ih = rw (e, ih)
+stops-same form n c j [] = refl
+stops-same form n c j (l ∷ ls) = rw (tag-is form n c j l) (one-more (isStop (letter l)) _ l _ _ (stops-same form n c (suc j) ls))
 
 -- a text that is not empty is its lines, as one block
 whole : (ls : List Line) → 0 < length ls → (getD ls 0 noLine ∷ drop 1 ls) ≡ ls
@@ -126,14 +164,3 @@ whole (l ∷ ls) h = refl
 
 pub block-lines : (b : List ℕ) → 0 < length b → members (asBlock b) ≡ lines b
 block-lines b h = whole (lines b) (omega (arith, ap length (lines-step b h)))
-
--- a record of a kind that covers is in range only strictly
-pub ranged-of : (n x : ℕ) (r : Row) → covers x ≡ true → tag r ≡ x → inRange n r ≡ true → ranged n r ≡ true
-unfolding covers any inRange
-ranged-of n x r c t e = one-of (eqb x percent) refl (eqb x dash) refl (eqb x ampersand) refl
-  where
-    one-of : (a : Bool) → eqb x percent ≡ a → (b : Bool) → eqb x dash ≡ b → (d : Bool) → eqb x ampersand ≡ d → ranged n r ≡ true
-    one-of true p b q d w = rw (t, p) (rw (t, p) at e)
-    one-of false p true q d w = rw (t, p) (rw (t, p, q) at e)
-    one-of false p false q true w = rw (t, p) (rw (t, p, q, w) at e)
-    one-of false p false q false w = absurd (false≢true (rw (p, q, w) at c))

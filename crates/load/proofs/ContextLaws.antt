@@ -1,15 +1,21 @@
 -- What a file's verdict asks of the other files, and no more: so a table that is not yet read may stand for it. Assumes nothing.
 use Prim.Native.Nat.{ℕ}
-use mathlib.Core.Path.{_≡_, refl, sym, _∙_}
+use mathlib.Core.Path.{_≡_, refl, ap, sym, _∙_}
 use mathlib.Core.List.{List, [], _∷_}
 use mathlib.Core.Bool.{true}
 use Rattle.iff.specs.Refusals.{orElse, fine}
+use Rattle.iff.specs.Files.{PerFile, of, eleven}
 use Rattle.iff.specs.Lines.{Line, lines}
+use Rattle.iff.specs.declared.RowFile.{RowFile}
+use Rattle.iff.specs.declared.RowFile.the-variants.{Company, Country, Trnsmode, Stations}
+use Rattle.iff.specs.declared.GroupFile.{GroupFile}
+use Rattle.iff.specs.declared.GroupFile.the-variants.{Timezone, Footnote, Changes, Xfootnote, Xchanges}
 use Rattle.iff.specs.declared.File.{File}
-use Rattle.iff.specs.declared.File.the-variants.{Company, Country, Trnsmode, Timezone, Stations, Footnote, Timetbls, Changes, Xfootnote, Xchanges}
+use Rattle.iff.specs.declared.File.the-variants.{Delivery, Rows, Groups, Timetbls}
+use Rattle.iff.specs.declared.Form.{Form}
 use Rattle.iff.specs.declared.Verdict.{Verdict}
 use Rattle.iff.specs.declared.Verdict.the-variants.{Fine, Fault}
-use Rattle.iff_rules.specs.References.{met, metInBlock}
+use Rattle.iff_rules.specs.References.{metByRow, metInGroup, metInBlock}
 use Rattle.iff_rules.specs.Rows.{Context}
 use Rattle.iff_rules.specs.Load.{plainTest, plainVerdict, groupTest, groupVerdict, groupsVerdict, blockTest, blockVerdict, timetblsVerdict, fileVerdict}
 use Rattle.keys.specs.Lookup.{keysIn}
@@ -17,65 +23,78 @@ use Rattle.references.specs.Agree.{BlockKeys, StationKeys, GroupKeys}
 use Rattle.reading.specs.Reading.{FileRead}
 
 abbrev pub Keys : Type 0
-Keys = List ℕ
+Keys = PerFile (List ℕ)
 
-abbrev pub asks : ℕ → Keys → Keys → Keys → Keys → Keys → Keys → Keys → Keys → Context
-asks d co cy mo zo st fo se xf = record { days = d; companies = co; countries = cy; modes = mo; zones = zo; stations = st; footnotes = fo; services = se; xfootnotes = xf }
+-- a context by the keys of each file
+abbrev pub asking : Form → Keys → Context
+asking form K = record { form = form; keys = of K }
 
--- a context with nothing but its days
-abbrev bare : ℕ → Context
-bare d = asks d [] [] [] [] [] [] [] []
+abbrev nothing : Keys
+nothing = eleven [] [] [] [] [] [] [] [] [] [] []
 
-module _ (h : List ℕ) where
-  company-bare : (c : Context) (ls : List Line) → fileVerdict c h Company ls ≡ fileVerdict (bare (c .days)) h Company ls
-  unfolding fileVerdict plainVerdict plainTest met
-  company-bare c [] = refl
-  company-bare c (l ∷ ls) = refl
+-- the keys that a file asks for, and none of the others
+abbrev askedByRows : RowFile → (File → List ℕ) → Keys
+askedByRows Company k = nothing
+askedByRows Country k = nothing
+askedByRows Trnsmode k = nothing
+askedByRows Stations k = eleven [] [] (k (Rows Country)) [] (k (Groups Timezone)) [] [] [] [] [] []
 
-  country-bare : (c : Context) (ls : List Line) → fileVerdict c h Country ls ≡ fileVerdict (bare (c .days)) h Country ls
-  unfolding fileVerdict plainVerdict plainTest met
-  country-bare c [] = refl
-  country-bare c (l ∷ ls) = refl
+abbrev askedByGroups : GroupFile → (File → List ℕ) → Keys
+askedByGroups Timezone k = nothing
+askedByGroups Footnote k = nothing
+askedByGroups Changes k = eleven [] [] [] [] [] (k (Rows Stations)) [] (k Timetbls) [] [] []
+askedByGroups Xfootnote k = nothing
+askedByGroups Xchanges k = eleven [] (k (Rows Company)) [] (k (Rows Trnsmode)) [] (k (Rows Stations)) [] [] [] (k (Groups Xfootnote)) []
 
-  trnsmode-bare : (c : Context) (ls : List Line) → fileVerdict c h Trnsmode ls ≡ fileVerdict (bare (c .days)) h Trnsmode ls
-  unfolding fileVerdict plainVerdict plainTest met
-  trnsmode-bare c [] = refl
-  trnsmode-bare c (l ∷ ls) = refl
+abbrev pub asked : File → (File → List ℕ) → Keys
+asked Delivery k = nothing
+asked (Rows f) k = askedByRows f k
+asked (Groups f) k = askedByGroups f k
+asked Timetbls k = eleven [] (k (Rows Company)) [] (k (Rows Trnsmode)) [] (k (Rows Stations)) (k (Groups Footnote)) [] [] [] []
 
-  timezone-bare : (c : Context) (ls : List Line) → fileVerdict c h Timezone ls ≡ fileVerdict (bare (c .days)) h Timezone ls
-  unfolding fileVerdict groupsVerdict groupVerdict groupTest met
-  timezone-bare c [] = refl
-  timezone-bare c (l ∷ ls) = refl
+-- they are all that its verdict depends on
+module _ (c : Context) (h : List ℕ) where
+  abbrev Only : File → List Line → Type 0
+  Only f ls = fileVerdict c h f ls ≡ fileVerdict (asking (c .form) (asked f (c .keys))) h f ls
 
-  footnote-bare : (c : Context) (ls : List Line) → fileVerdict c h Footnote ls ≡ fileVerdict (bare (c .days)) h Footnote ls
-  unfolding fileVerdict groupsVerdict groupVerdict groupTest met
-  footnote-bare c [] = refl
-  footnote-bare c (l ∷ ls) = refl
+  none-asked : (f : File) → Only f []
+  unfolding fileVerdict
+  none-asked f = refl
 
-  xfootnote-bare : (c : Context) (ls : List Line) → fileVerdict c h Xfootnote ls ≡ fileVerdict (bare (c .days)) h Xfootnote ls
-  unfolding fileVerdict groupsVerdict groupVerdict groupTest met
-  xfootnote-bare c [] = refl
-  xfootnote-bare c (l ∷ ls) = refl
+  rows-ask : (f : RowFile) (l : Line) (ls : List Line) → Only (Rows f) (l ∷ ls)
+  unfolding fileVerdict plainVerdict plainTest metByRow
+  rows-ask Company l ls = refl
+  rows-ask Country l ls = refl
+  rows-ask Trnsmode l ls = refl
+  rows-ask Stations l ls = refl
 
-  stations-bare : (c : Context) (ls : List Line) → fileVerdict c h Stations ls ≡ fileVerdict (asks (c .days) [] (c .countries) [] (c .zones) [] [] [] []) h Stations ls
-  unfolding fileVerdict plainVerdict plainTest met
-  stations-bare c [] = refl
-  stations-bare c (l ∷ ls) = refl
+  groups-ask : (f : GroupFile) (l : Line) (ls : List Line) → Only (Groups f) (l ∷ ls)
+  unfolding fileVerdict groupsVerdict groupVerdict groupTest metInGroup
+  groups-ask Timezone l ls = refl
+  groups-ask Footnote l ls = refl
+  groups-ask Changes l ls = refl
+  groups-ask Xfootnote l ls = refl
+  groups-ask Xchanges l ls = refl
 
-  timetbls-bare : (c : Context) (ls : List Line) → fileVerdict c h Timetbls ls ≡ fileVerdict (asks (c .days) (c .companies) [] (c .modes) [] (c .stations) (c .footnotes) [] []) h Timetbls ls
-  unfolding fileVerdict timetblsVerdict blockVerdict blockTest met metInBlock
-  timetbls-bare c [] = refl
-  timetbls-bare c (l ∷ ls) = refl
+  blocks-ask : (l : Line) (ls : List Line) → Only Timetbls (l ∷ ls)
+  unfolding fileVerdict timetblsVerdict blockVerdict blockTest metInBlock
+  blocks-ask l ls = refl
 
-  changes-bare : (c : Context) (ls : List Line) → fileVerdict c h Changes ls ≡ fileVerdict (asks (c .days) [] [] [] [] (c .stations) [] (c .services) []) h Changes ls
-  unfolding fileVerdict groupsVerdict groupVerdict groupTest met
-  changes-bare c [] = refl
-  changes-bare c (l ∷ ls) = refl
+  delivery-asks : (l : Line) (ls : List Line) → Only Delivery (l ∷ ls)
+  unfolding fileVerdict
+  delivery-asks l ls = refl
 
-  xchanges-bare : (c : Context) (ls : List Line) → fileVerdict c h Xchanges ls ≡ fileVerdict (asks (c .days) (c .companies) [] (c .modes) [] (c .stations) [] [] (c .xfootnotes)) h Xchanges ls
-  unfolding fileVerdict groupsVerdict groupVerdict groupTest met
-  xchanges-bare c [] = refl
-  xchanges-bare c (l ∷ ls) = refl
+  asks-only : (f : File) (ls : List Line) → Only f ls
+  asks-only f [] = none-asked f
+  asks-only Delivery (l ∷ ls) = delivery-asks l ls
+  asks-only (Rows f) (l ∷ ls) = rows-ask f l ls
+  asks-only (Groups f) (l ∷ ls) = groups-ask f l ls
+  asks-only Timetbls (l ∷ ls) = blocks-ask l ls
+
+-- so two contexts that have the same of them give the same verdict
+pub same-verdict : (c d : Context) (h : List ℕ) (f : File) (ls : List Line) → c .form ≡ d .form → asked f (c .keys) ≡ asked f (d .keys)
+    → fileVerdict c h f ls ≡ fileVerdict d h f ls
+same-verdict c d h f ls p q = asks-only c h f ls ∙ (λ i. fileVerdict (asking (p i) (q i)) h f ls) ∙ sym (asks-only d h f ls)
 
 -- a verdict handed on, and what is asked only where there was no fault before
 pub advance : (v : Verdict) {r : Verdict} (x y : Verdict) → r ≡ orElse v x → (fine v ≡ true → x ≡ y) → r ≡ orElse v y
@@ -86,69 +105,50 @@ pub back : (v : Verdict) {r : Verdict} (x : Verdict) → r ≡ orElse v x → fi
 back Fine x e g = refl
 back (Fault k p) x e g = rw e at g
 
--- WHAT EACH READER SAYS, for a context that has what its file asks for
-module _ {f : File} {days : ℕ} {cy zo h text : List ℕ} {v : Verdict} {was is : List ℕ} {r : Verdict} where
-  pub plain-said : FileRead f days (λ c. StationKeys c cy zo) h text v was is r → r ≡ orElse v (fileVerdict (asks days [] (keysIn Country cy) [] (keysIn Timezone zo) [] [] [] []) h f (lines text))
-  plain-said d = d .verdict (asks days [] (keysIn Country cy) [] (keysIn Timezone zo) [] [] [] []) refl (record { countries = refl; zones = refl })
+-- WHAT EACH READER SAYS, for a context that has the keys of the tables lent to it
+abbrev rowKeys : List ℕ → List ℕ → Keys
+rowKeys cy zo = eleven [] [] (keysIn (Rows Country) cy) [] (keysIn (Groups Timezone) zo) [] [] [] [] [] []
 
-  pub plain-back : FileRead f days (λ c. StationKeys c cy zo) h text v was is r → fine r ≡ true → fine v ≡ true
-  plain-back d g = back v _ (plain-said d) g
+abbrev groupKeys : List ℕ → List ℕ → List ℕ → List ℕ → List ℕ → Keys
+groupKeys co mo st se xf =
+    eleven [] (keysIn (Rows Company) co) [] (keysIn (Rows Trnsmode) mo) [] (keysIn (Rows Stations) st) [] (keysIn Timetbls se) []
+    (keysIn (Groups Xfootnote) xf) []
 
-module _ {f : File} {days : ℕ} {co mo st se xf h text : List ℕ} {v : Verdict} {was is : List ℕ} {r : Verdict} where
-  pub group-said : FileRead f days (λ c. GroupKeys c co mo st se xf) h text v was is r → r ≡ orElse v (fileVerdict (asks days (keysIn Company co) [] (keysIn Trnsmode mo) [] (keysIn Stations st) [] (keysIn Timetbls se) (keysIn Xfootnote xf)) h f (lines text))
-  group-said d =
-      d .verdict (asks days (keysIn Company co) [] (keysIn Trnsmode mo) [] (keysIn Stations st) [] (keysIn Timetbls se) (keysIn Xfootnote xf)) refl
-      (record { companies = refl; modes = refl; stations = refl; services = refl; xfootnotes = refl })
+abbrev blockKeys : List ℕ → List ℕ → List ℕ → List ℕ → Keys
+blockKeys co mo st fo =
+    eleven [] (keysIn (Rows Company) co) [] (keysIn (Rows Trnsmode) mo) [] (keysIn (Rows Stations) st) (keysIn (Groups Footnote) fo) [] [] [] []
 
-  pub group-back : FileRead f days (λ c. GroupKeys c co mo st se xf) h text v was is r → fine r ≡ true → fine v ≡ true
-  group-back d g = back v _ (group-said d) g
+module _ {form : Form} {h text : List ℕ} {v : Verdict} {was is : List ℕ} {r : Verdict} where
+  module _ {f : RowFile} {cy zo : List ℕ} where
+    pub rows-said : FileRead (Rows f) form (λ c. StationKeys c cy zo) h text v was is r
+        → r ≡ orElse v (fileVerdict (asking form (rowKeys cy zo)) h (Rows f) (lines text))
+    rows-said d = d .verdict (asking form (rowKeys cy zo)) refl (record { countries = refl; zones = refl })
 
-module _ {days : ℕ} {co mo st fo h text : List ℕ} {v : Verdict} {was is : List ℕ} {r : Verdict} where
-  pub blocks-said : FileRead Timetbls days (λ c. BlockKeys c co mo st fo) h text v was is r → r ≡ orElse v (fileVerdict (asks days (keysIn Company co) [] (keysIn Trnsmode mo) [] (keysIn Stations st) (keysIn Footnote fo) [] []) h Timetbls (lines text))
-  blocks-said d =
-      d .verdict (asks days (keysIn Company co) [] (keysIn Trnsmode mo) [] (keysIn Stations st) (keysIn Footnote fo) [] []) refl
-      (record { companies = refl; modes = refl; stations = refl; footnotes = refl })
+    pub rows-back : FileRead (Rows f) form (λ c. StationKeys c cy zo) h text v was is r → fine r ≡ true → fine v ≡ true
+    rows-back d g = back v _ (rows-said d) g
 
-  pub blocks-back : FileRead Timetbls days (λ c. BlockKeys c co mo st fo) h text v was is r → fine r ≡ true → fine v ≡ true
-  blocks-back d g = back v _ (blocks-said d) g
+  module _ {f : GroupFile} {co mo st se xf : List ℕ} where
+    pub groups-said : FileRead (Groups f) form (λ c. GroupKeys c co mo st se xf) h text v was is r
+        → r ≡ orElse v (fileVerdict (asking form (groupKeys co mo st se xf)) h (Groups f) (lines text))
+    groups-said d =
+        d .verdict (asking form (groupKeys co mo st se xf)) refl
+        (record { companies = refl; modes = refl; stations = refl; services = refl; xfootnotes = refl })
 
--- the same for the context of the whole delivery
-module _ (days : ℕ) (h text : List ℕ) (v : Verdict) (c : Context) where
-  module _ {cy zo was is : List ℕ} {r : Verdict} where
-    pub company-read : FileRead Company days (λ e. StationKeys e cy zo) h text v was is r → (fine v ≡ true → days ≡ c .days) → r ≡ orElse v (fileVerdict c h Company (lines text))
-    company-read d p = advance v _ _ (plain-said d) (λ g. company-bare h _ (lines text) ∙ rw (p g) (sym (company-bare h c (lines text))))
+    pub groups-back : FileRead (Groups f) form (λ c. GroupKeys c co mo st se xf) h text v was is r → fine r ≡ true → fine v ≡ true
+    groups-back d g = back v _ (groups-said d) g
 
-    pub country-read : FileRead Country days (λ e. StationKeys e cy zo) h text v was is r → (fine v ≡ true → days ≡ c .days) → r ≡ orElse v (fileVerdict c h Country (lines text))
-    country-read d p = advance v _ _ (plain-said d) (λ g. country-bare h _ (lines text) ∙ rw (p g) (sym (country-bare h c (lines text))))
+  module _ {co mo st fo : List ℕ} where
+    pub blocks-said : FileRead Timetbls form (λ c. BlockKeys c co mo st fo) h text v was is r
+        → r ≡ orElse v (fileVerdict (asking form (blockKeys co mo st fo)) h Timetbls (lines text))
+    blocks-said d =
+        d .verdict (asking form (blockKeys co mo st fo)) refl (record { companies = refl; modes = refl; stations = refl; footnotes = refl })
 
-    pub trnsmode-read : FileRead Trnsmode days (λ e. StationKeys e cy zo) h text v was is r → (fine v ≡ true → days ≡ c .days) → r ≡ orElse v (fileVerdict c h Trnsmode (lines text))
-    trnsmode-read d p = advance v _ _ (plain-said d) (λ g. trnsmode-bare h _ (lines text) ∙ rw (p g) (sym (trnsmode-bare h c (lines text))))
+    pub blocks-back : FileRead Timetbls form (λ c. BlockKeys c co mo st fo) h text v was is r → fine r ≡ true → fine v ≡ true
+    blocks-back d g = back v _ (blocks-said d) g
 
-    pub stations-read : FileRead Stations days (λ e. StationKeys e cy zo) h text v was is r → (fine v ≡ true → days ≡ c .days) → (fine v ≡ true → keysIn Country cy ≡ c .countries) → (fine v ≡ true → keysIn Timezone zo ≡ c .zones)
-        → r ≡ orElse v (fileVerdict c h Stations (lines text))
-    stations-read d p q s = advance v _ _ (plain-said d) (λ g. rw (p g, q g, s g) (sym (stations-bare h c (lines text))))
-
-  module _ {co mo st se xf was is : List ℕ} {r : Verdict} where
-    pub timezone-read : FileRead Timezone days (λ e. GroupKeys e co mo st se xf) h text v was is r → (fine v ≡ true → days ≡ c .days) → r ≡ orElse v (fileVerdict c h Timezone (lines text))
-    timezone-read d p = advance v _ _ (group-said d) (λ g. timezone-bare h _ (lines text) ∙ rw (p g) (sym (timezone-bare h c (lines text))))
-
-    pub footnote-read : FileRead Footnote days (λ e. GroupKeys e co mo st se xf) h text v was is r → (fine v ≡ true → days ≡ c .days) → r ≡ orElse v (fileVerdict c h Footnote (lines text))
-    footnote-read d p = advance v _ _ (group-said d) (λ g. footnote-bare h _ (lines text) ∙ rw (p g) (sym (footnote-bare h c (lines text))))
-
-    pub xfootnote-read : FileRead Xfootnote days (λ e. GroupKeys e co mo st se xf) h text v was is r → (fine v ≡ true → days ≡ c .days) → r ≡ orElse v (fileVerdict c h Xfootnote (lines text))
-    xfootnote-read d p = advance v _ _ (group-said d) (λ g. xfootnote-bare h _ (lines text) ∙ rw (p g) (sym (xfootnote-bare h c (lines text))))
-
-    pub changes-read : FileRead Changes days (λ e. GroupKeys e co mo st se xf) h text v was is r → (fine v ≡ true → days ≡ c .days) → (fine v ≡ true → keysIn Stations st ≡ c .stations) → (fine v ≡ true → keysIn Timetbls se ≡ c .services)
-        → r ≡ orElse v (fileVerdict c h Changes (lines text))
-    changes-read d p q s = advance v _ _ (group-said d) (λ g. changes-bare h _ (lines text) ∙ rw (p g, q g, s g) (sym (changes-bare h c (lines text))))
-
-    pub xchanges-read : FileRead Xchanges days (λ e. GroupKeys e co mo st se xf) h text v was is r → (fine v ≡ true → days ≡ c .days)
-        → (fine v ≡ true → keysIn Company co ≡ c .companies) → (fine v ≡ true → keysIn Trnsmode mo ≡ c .modes) → (fine v ≡ true → keysIn Stations st ≡ c .stations) → (fine v ≡ true → keysIn Xfootnote xf ≡ c .xfootnotes)
-        → r ≡ orElse v (fileVerdict c h Xchanges (lines text))
-    xchanges-read d p a b q s = advance v _ _ (group-said d) (λ g. xchanges-bare h _ (lines text) ∙ rw (p g, a g, b g, q g, s g) (sym (xchanges-bare h c (lines text))))
-
-  module _ {co mo st fo was is : List ℕ} {r : Verdict} where
-    pub timetbls-read : FileRead Timetbls days (λ e. BlockKeys e co mo st fo) h text v was is r → (fine v ≡ true → days ≡ c .days)
-        → (fine v ≡ true → keysIn Company co ≡ c .companies) → (fine v ≡ true → keysIn Trnsmode mo ≡ c .modes) → (fine v ≡ true → keysIn Stations st ≡ c .stations) → (fine v ≡ true → keysIn Footnote fo ≡ c .footnotes)
-        → r ≡ orElse v (fileVerdict c h Timetbls (lines text))
-    timetbls-read d p a b q s = advance v _ _ (blocks-said d) (λ g. rw (p g, a g, b g, q g, s g) (sym (timetbls-bare h c (lines text))))
+-- the same for another context, where it has what the file asks for
+pub said-for : (c : Context) (f : File) (form : Form) (K : Keys) (h text : List ℕ) (v : Verdict) {r : Verdict}
+    → r ≡ orElse v (fileVerdict (asking form K) h f (lines text)) → (fine v ≡ true → form ≡ c .form)
+    → (fine v ≡ true → asked f (of K) ≡ asked f (c .keys))
+    → r ≡ orElse v (fileVerdict c h f (lines text))
+said-for c f form K h text v e p q = advance v _ _ e (λ g. same-verdict (asking form K) c h f (lines text) (p g) (q g))

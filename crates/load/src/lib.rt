@@ -1,6 +1,7 @@
 // A load: the eleven files tested and read in order, and their rows left in the eleven tables. A refused load leaves every table zero.
 use iff::Answer;
-use iff::File;
+use iff::GroupFile;
+use iff::RowFile;
 ghost use lib.ListN.{length};
 ghost use Rattle.iff.specs.Files.{eleven};
 ghost use Rattle.iff_laws.specs.Outcomes.{Loaded};
@@ -30,7 +31,18 @@ pub fn load(
     t_xfootnote: &mut [u64],
     t_xchanges: &mut [u64],
 ) -> Answer
-    ensures { λ r. ⌜ Loaded (eleven (now (delivery .entry)) (now (company .entry)) (now (country .entry)) (now (trnsmode .entry)) (now (timezone .entry)) (now (stations .entry)) (now (footnote .entry)) (now (timetbls .entry)) (now (changes .entry)) (now (xfootnote .entry)) (now (xchanges .entry))) (eleven (length (now («t_delivery» .entry))) (length (now («t_company» .entry))) (length (now («t_country» .entry))) (length (now («t_trnsmode» .entry))) (length (now («t_timezone» .entry))) (length (now («t_stations» .entry))) (length (now («t_footnote» .entry))) (length (now («t_timetbls» .entry))) (length (now («t_changes» .entry))) (length (now («t_xfootnote» .entry))) (length (now («t_xchanges» .entry)))) r (eleven (now («t_delivery» .exit)) (now («t_company» .exit)) (now («t_country» .exit)) (now («t_trnsmode» .exit)) (now («t_timezone» .exit)) (now («t_stations» .exit)) (now («t_footnote» .exit)) (now («t_timetbls» .exit)) (now («t_changes» .exit)) (now («t_xfootnote» .exit)) (now («t_xchanges» .exit))) ⌝ }
+    ensures { λ r. ⌜ Loaded
+        (eleven (now (delivery .entry)) (now (company .entry)) (now (country .entry)) (now (trnsmode .entry)) (now (timezone .entry))
+        (now (stations .entry)) (now (footnote .entry)) (now (timetbls .entry)) (now (changes .entry)) (now (xfootnote .entry))
+        (now (xchanges .entry)))
+        (eleven (length (now («t_delivery» .entry))) (length (now («t_company» .entry))) (length (now («t_country» .entry)))
+        (length (now («t_trnsmode» .entry))) (length (now («t_timezone» .entry))) (length (now («t_stations» .entry)))
+        (length (now («t_footnote» .entry))) (length (now («t_timetbls» .entry))) (length (now («t_changes» .entry)))
+        (length (now («t_xfootnote» .entry))) (length (now («t_xchanges» .entry))))
+        r
+        (eleven (now («t_delivery» .exit)) (now («t_company» .exit)) (now («t_country» .exit)) (now («t_trnsmode» .exit))
+        (now («t_timezone» .exit)) (now («t_stations» .exit)) (now («t_footnote» .exit)) (now («t_timetbls» .exit))
+        (now («t_changes» .exit)) (now («t_xfootnote» .exit)) (now («t_xchanges» .exit))) ⌝ }
 {
     let v0 = sizes::sizes(
         delivery,
@@ -56,7 +68,7 @@ pub fn load(
         t_xfootnote.len(),
         t_xchanges.len(),
     );
-    steps::clear_all(
+    clearing::clear_all(
         t_delivery,
         t_company,
         t_country,
@@ -70,43 +82,43 @@ pub fn load(
         t_xchanges,
     );
     let v1 = heads::read_delivery(v0, delivery, t_delivery);
-    let header = steps::first_body(delivery);
-    let days = steps::days_of(t_delivery);
-    let v2 = files::read_plain_file(
-        File::Company,
+    let header = heads::first_body(delivery);
+    let form = heads::form_of(t_delivery);
+    let v2 = row_files::read_row_file(
+        RowFile::Company,
         v1,
-        days,
+        form,
         company,
         header,
         t_company,
         t_country,
         t_timezone,
     );
-    let v3 = steps::company_test(v2, t_delivery, t_company);
-    let v4 = files::read_plain_file(
-        File::Country,
+    let v3 = references::company_test(v2, t_delivery, t_company);
+    let v4 = row_files::read_row_file(
+        RowFile::Country,
         v3,
-        days,
+        form,
         country,
         header,
         t_country,
         t_stations,
         t_timezone,
     );
-    let v5 = files::read_plain_file(
-        File::Trnsmode,
+    let v5 = row_files::read_row_file(
+        RowFile::Trnsmode,
         v4,
-        days,
+        form,
         trnsmode,
         header,
         t_trnsmode,
         t_country,
         t_timezone,
     );
-    let v6 = groups::read_group_file(
-        File::Timezone,
+    let v6 = group_files::read_group_file(
+        GroupFile::Timezone,
         v5,
-        days,
+        form,
         timezone,
         header,
         t_timezone,
@@ -116,20 +128,20 @@ pub fn load(
         t_timetbls,
         t_xfootnote,
     );
-    let v7 = files::read_plain_file(
-        File::Stations,
+    let v7 = row_files::read_row_file(
+        RowFile::Stations,
         v6,
-        days,
+        form,
         stations,
         header,
         t_stations,
         t_country,
         t_timezone,
     );
-    let v8 = groups::read_group_file(
-        File::Footnote,
+    let v8 = group_files::read_group_file(
+        GroupFile::Footnote,
         v7,
-        days,
+        form,
         footnote,
         header,
         t_footnote,
@@ -141,7 +153,7 @@ pub fn load(
     );
     let v9 = timetbls::read_timetbls(
         v8,
-        days,
+        form,
         timetbls,
         header,
         t_timetbls,
@@ -150,10 +162,10 @@ pub fn load(
         t_stations,
         t_footnote,
     );
-    let v10 = groups::read_group_file(
-        File::Changes,
+    let v10 = group_files::read_group_file(
+        GroupFile::Changes,
         v9,
-        days,
+        form,
         changes,
         header,
         t_changes,
@@ -163,10 +175,10 @@ pub fn load(
         t_timetbls,
         t_xfootnote,
     );
-    let v11 = groups::read_group_file(
-        File::Xfootnote,
+    let v11 = group_files::read_group_file(
+        GroupFile::Xfootnote,
         v10,
-        days,
+        form,
         xfootnote,
         header,
         t_xfootnote,
@@ -176,10 +188,10 @@ pub fn load(
         t_timetbls,
         t_footnote,
     );
-    let v12 = groups::read_group_file(
-        File::Xchanges,
+    let v12 = group_files::read_group_file(
+        GroupFile::Xchanges,
         v11,
-        days,
+        form,
         xchanges,
         header,
         t_xchanges,
@@ -189,8 +201,8 @@ pub fn load(
         t_timetbls,
         t_xfootnote,
     );
-    let services = steps::count_services(t_timetbls);
-    steps::settle(
+    let services = keys::count_services(t_timetbls);
+    clearing::settle(
         v12,
         t_delivery,
         t_company,
@@ -204,5 +216,5 @@ pub fn load(
         t_xfootnote,
         t_xchanges,
     );
-    answers::answer_of(v12, days, services)
+    answers::answer_of(v12, form.days, services)
 }

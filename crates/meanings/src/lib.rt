@@ -1,10 +1,14 @@
 // What a row's numbers must be.
+use iff::GroupFile;
+use iff::RowFile;
 ghost use mathlib.Core.Path.{_≡_};
 ghost use Prim.Native.Nat.{_≤_};
 ghost use lib.ListN.{length};
 ghost use Rattle.iff.specs.Tables.{rowWidth};
-ghost use Rattle.iff.specs.declared.File.the-variants.{Company, Country, Timezone, Changes};
-ghost use Rattle.iff_rules.specs.Meaning.{meaning, firstMeaning, blockMeaning};
+ghost use Rattle.iff.specs.declared.File.the-variants.{Rows, Groups};
+ghost use Rattle.iff.specs.declared.RowFile.the-variants.{Company, Country};
+ghost use Rattle.iff.specs.declared.GroupFile.the-variants.{Timezone, Changes};
+ghost use Rattle.iff_rules.specs.Meaning.{firstMeaning, rowMeaning, groupMeaning, blockMeaning};
 ghost use Rattle.meanings.specs.Times.{timesRight};
 
 // Two days in turn, 800 days at most.
@@ -12,96 +16,109 @@ pub fn first_means(row: &[u64]) -> bool
     requires { ⌜ 5 ≤ length (now row) ⌝ }
     ensures { λ r. ⌜ r ≡ firstMeaning (now (row .entry)) ⌝ }
 {
-    let first = row[2];
-    let last = row[3];
+    let first = row[iff::words::FIRST_DAY];
+    let last = row[iff::words::LAST_DAY];
     if !calendar::is_period(first, last) {
         return false;
     }
-    calendar::span(first, last) <= 800
+    calendar::span(first, last) <= iff::limits::MOST_DAYS
 }
+
+// FILES OF ROWS
 
 // Number 1 or more, and a day turn.
 fn company_means(row: &[u64]) -> bool
     requires { ⌜ 5 ≤ length (now row) ⌝ }
-    ensures { λ r. ⌜ r ≡ meaning Company 0 (now (row .entry)) ⌝ }
+    ensures { λ r. ⌜ r ≡ rowMeaning Company 0 (now (row .entry)) ⌝ }
 {
-    if row[1] < 1 {
+    if row[iff::words::COMPANY_NUMBER] < 1 {
         return false;
     }
-    calendar::is_turn(row[2])
+    calendar::is_turn(row[iff::words::DAY_TURN])
 }
 
 // Inland is 0 or 1.
 fn country_means(row: &[u64]) -> bool
     requires { ⌜ 5 ≤ length (now row) ⌝ }
-    ensures { λ r. ⌜ r ≡ meaning Country 0 (now (row .entry)) ⌝ }
+    ensures { λ r. ⌜ r ≡ rowMeaning Country 0 (now (row .entry)) ⌝ }
 {
-    row[2] <= 1
+    row[iff::words::INLAND] <= 1
 }
+
+// A row's numbers, after `count` rows of its file: 64 modes at most.
+pub fn row_means(file: RowFile, count: usize, row: &[u64]) -> bool
+    requires { ⌜ length (now row) ≡ rowWidth (Rows file) ⌝ }
+    ensures { λ r. ⌜ r ≡ rowMeaning file count (now (row .entry)) ⌝ }
+{
+    match file {
+        RowFile::Company => company_means(row),
+        RowFile::Country => country_means(row),
+        RowFile::Trnsmode => count < iff::limits::MOST_MODES,
+        RowFile::Stations => true,
+    }
+}
+
+// FILES OF GROUPS
 
 // A period's days in turn.
 fn zone_means(row: &[u64]) -> bool
     requires { ⌜ 5 ≤ length (now row) ⌝ }
-    ensures { λ r. ⌜ r ≡ meaning Timezone 0 (now (row .entry)) ⌝ }
+    ensures { λ r. ⌜ r ≡ groupMeaning Timezone (now (row .entry)) ⌝ }
 {
-    if row[0] == 35 {
+    if row[iff::words::TAG] == iff::tags::HASH {
         return true;
     }
-    calendar::is_period(row[2], row[3])
+    calendar::is_period(row[iff::words::PERIOD_FIRST], row[iff::words::PERIOD_LAST])
 }
 
 // Possibility is 00, 01 or 02.
 fn pair_means(row: &[u64]) -> bool
     requires { ⌜ 5 ≤ length (now row) ⌝ }
-    ensures { λ r. ⌜ r ≡ meaning Changes 0 (now (row .entry)) ⌝ }
+    ensures { λ r. ⌜ r ≡ groupMeaning Changes (now (row .entry)) ⌝ }
 {
-    if row[0] == 35 {
+    if row[iff::words::TAG] == iff::tags::HASH {
         return true;
     }
-    row[3] <= 2
+    row[iff::words::POSSIBILITY] <= 2
 }
+
+// A row's numbers in a group.
+pub fn group_means(file: GroupFile, row: &[u64]) -> bool
+    requires { ⌜ length (now row) ≡ rowWidth (Groups file) ⌝ }
+    ensures { λ r. ⌜ r ≡ groupMeaning file (now (row .entry)) ⌝ }
+{
+    match file {
+        GroupFile::Timezone => zone_means(row),
+        GroupFile::Footnote => true,
+        GroupFile::Changes => pair_means(row),
+        GroupFile::Xfootnote => true,
+        GroupFile::Xchanges => true,
+    }
+}
+
+// BLOCKS
 
 // A stop's time, or two times where it is an interval.
 fn stop_means(row: &[u64]) -> bool
     requires { ⌜ 5 ≤ length (now row) ⌝ }
     ensures { λ r. ⌜ r ≡ timesRight (now (row .entry)) ⌝ }
 {
-    if row[0] == 43 {
-        return calendar::is_interval(row[2], row[3]);
+    if row[iff::words::TAG] == iff::tags::PLUS {
+        return calendar::is_interval(row[iff::words::ARRIVAL], row[iff::words::DEPARTURE]);
     }
-    calendar::is_time(row[2])
+    calendar::is_time(row[iff::words::STOP_TIME])
 }
 
-// A record of a block: 998 stops at most, and their times.
-fn block_means(stops: usize, row: &[u64]) -> bool
+// A record of a block, after some stops: 998 stops at most, and their times.
+pub fn block_means(stops: usize, row: &[u64]) -> bool
     requires { ⌜ 5 ≤ length (now row) ⌝ }
     ensures { λ r. ⌜ r ≡ blockMeaning stops (now (row .entry)) ⌝ }
 {
-    if !order::is_stop(row[0]) {
+    if !order::is_stop(row[iff::words::TAG]) {
         return true;
     }
-    if 998 <= stops {
+    if iff::limits::MOST_STOPS as usize <= stops {
         return false;
     }
     stop_means(row)
-}
-
-// A row's numbers, after `count` rows of its file, or stops of its block.
-pub fn row_means(file: iff::File, count: usize, row: &[u64]) -> bool
-    requires { ⌜ length (now row) ≡ rowWidth file ⌝ }
-    ensures { λ r. ⌜ r ≡ meaning file count (now (row .entry)) ⌝ }
-{
-    match file {
-        iff::File::Delivery => true,
-        iff::File::Company => company_means(row),
-        iff::File::Country => country_means(row),
-        iff::File::Trnsmode => count < 64,
-        iff::File::Timezone => zone_means(row),
-        iff::File::Stations => true,
-        iff::File::Footnote => true,
-        iff::File::Timetbls => block_means(count, row),
-        iff::File::Changes => pair_means(row),
-        iff::File::Xfootnote => true,
-        iff::File::Xchanges => true,
-    }
 }

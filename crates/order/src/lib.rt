@@ -1,14 +1,12 @@
 // Document 01's Order: what a first byte is, and what may follow what, in a group and in a block.
-use iff::File;
+use iff::GroupFile;
+use iff::GroupStand;
 use iff::Next;
 use iff::Stand;
 ghost use mathlib.Core.Path.{_≡_};
 ghost use Rattle.iff.specs.Lists.{has};
-ghost use Rattle.iff_rules.specs.Order.{tagOf, vectorTag, known, isStop, goes, finished, mayFollow, inGroup, oneVector, isPeriod, least};
-ghost use Rattle.order.specs.Whole.{whole};
-
-// The letter `#` as a row's tag.
-const HASH: u64 = 35;
+ghost use Rattle.iff_rules.specs.Order.{groupTag, vectorTag, knownInGroup, knownInBlock, isStop, goes, finished};
+ghost use Rattle.iff_rules.specs.Order.{mayFollow, inGroup, oneVector, isPeriod, groupMoves, mayEnd, endsOpened};
 
 // FIRST BYTES
 
@@ -26,52 +24,47 @@ fn has_byte(bytes: &[u8], b: u8) -> bool
     false
 }
 
+// A first byte that a file of groups knows.
+pub fn is_known_in_group(file: GroupFile, letter: u8) -> bool
+    ensures { λ r. ⌜ r ≡ knownInGroup file letter ⌝ }
+{
+    match file {
+        GroupFile::Timezone => has_byte(b"@#+-", letter),
+        GroupFile::Footnote => has_byte(b"@#01", letter),
+        GroupFile::Changes => has_byte(b"@#-", letter),
+        GroupFile::Xfootnote => has_byte(b"@#01", letter),
+        GroupFile::Xchanges => has_byte(b"@#-", letter),
+    }
+}
+
+// A first byte that TIMETBLS knows.
+pub fn is_known_in_block(letter: u8) -> bool
+    ensures { λ r. ⌜ r ≡ knownInBlock letter ⌝ }
+{
+    has_byte(b"@#%-&*>.+;<?", letter)
+}
+
 // The tag of a row of a vectors' file: a vector has no letter.
 fn vector_tag(letter: u8) -> u64
     ensures { λ r. ⌜ r ≡ vectorTag letter ⌝ }
 {
     match letter {
-        b'#' => 35,
-        b'@' => 64,
-        _ => 1,
+        b'#' => iff::tags::HASH,
+        b'@' => iff::tags::AT,
+        _ => iff::tags::LETTERLESS,
     }
 }
 
-// The first word of a row: the letter, or 1 where the record has none.
-pub fn tag_of(file: File, letter: u8) -> u64
-    ensures { λ r. ⌜ r ≡ tagOf file letter ⌝ }
+// The first word of a group's row: the letter, or 1 where the record has none.
+pub fn group_tag(file: GroupFile, letter: u8) -> u64
+    ensures { λ r. ⌜ r ≡ groupTag file letter ⌝ }
 {
     match file {
-        File::Delivery => 1,
-        File::Company => 1,
-        File::Country => 1,
-        File::Trnsmode => 1,
-        File::Timezone => letter as u64,
-        File::Stations => 1,
-        File::Footnote => vector_tag(letter),
-        File::Timetbls => letter as u64,
-        File::Changes => letter as u64,
-        File::Xfootnote => vector_tag(letter),
-        File::Xchanges => letter as u64,
-    }
-}
-
-// A first byte that a file knows; a file without record letters knows none.
-pub fn is_known(file: File, letter: u8) -> bool
-    ensures { λ r. ⌜ r ≡ known file letter ⌝ }
-{
-    match file {
-        File::Delivery => false,
-        File::Company => false,
-        File::Country => false,
-        File::Trnsmode => false,
-        File::Timezone => has_byte(b"@#+-", letter),
-        File::Stations => false,
-        File::Footnote => has_byte(b"@#01", letter),
-        File::Timetbls => has_byte(b"@#%-&*>.+;<?", letter),
-        File::Changes => has_byte(b"@#-", letter),
-        File::Xfootnote => has_byte(b"@#01", letter),
-        File::Xchanges => has_byte(b"@#-", letter),
+        GroupFile::Timezone => letter as u64,
+        GroupFile::Footnote => vector_tag(letter),
+        GroupFile::Changes => letter as u64,
+        GroupFile::Xfootnote => vector_tag(letter),
+        GroupFile::Xchanges => letter as u64,
     }
 }
 
@@ -80,92 +73,94 @@ pub fn is_stop(tag: u64) -> bool
     ensures { λ r. ⌜ r ≡ isStop tag ⌝ }
 {
     match tag {
-        62 => true,
-        46 => true,
-        43 => true,
-        60 => true,
+        iff::tags::GREATER => true,
+        iff::tags::DOT => true,
+        iff::tags::PLUS => true,
+        iff::tags::LESS => true,
         _ => false,
     }
 }
 
 // GROUPS
 
-// How many lines a group has at the least. Only files of groups have any.
-fn least_lines(file: File) -> usize
-    ensures { λ r. ⌜ r ≡ least file ⌝ }
-{
-    match file {
-        File::Delivery => 0,
-        File::Company => 0,
-        File::Country => 0,
-        File::Trnsmode => 0,
-        File::Timezone => 2,
-        File::Stations => 0,
-        File::Footnote => 2,
-        File::Timetbls => 0,
-        File::Changes => 1,
-        File::Xfootnote => 2,
-        File::Xchanges => 1,
-    }
-}
-
-// A group of `size` lines may end; where none was opened, nothing is missing.
-pub fn is_whole(file: File, size: usize) -> bool
-    ensures { λ r. ⌜ r ≡ whole file size ⌝ }
-{
-    if size == 0 {
-        return true;
-    }
-    least_lines(file) <= size
-}
-
 // A zone's period is `+` or `-`.
 fn is_sign(tag: u64) -> bool
     ensures { λ r. ⌜ r ≡ isPeriod tag ⌝ }
 {
-    if tag == 43 {
+    if tag == iff::tags::PLUS {
         return true;
     }
-    tag == 45
+    tag == iff::tags::DASH
 }
 
 // A footnote has one vector, right after its `#`.
-fn is_only_vector(after: usize, tag: u64) -> bool
-    ensures { λ r. ⌜ r ≡ oneVector after tag ⌝ }
+fn is_only_vector(stand: GroupStand, tag: u64) -> bool
+    ensures { λ r. ⌜ r ≡ oneVector stand tag ⌝ }
 {
-    if after == 0 {
-        return tag == 1;
+    match stand {
+        GroupStand::Opening => false,
+        GroupStand::Opened => tag == iff::tags::LETTERLESS,
+        GroupStand::Going => false,
     }
-    false
 }
 
-// A row with this tag may stand in a group, `after` lines behind its `#`.
-fn may_stand(file: File, after: usize, tag: u64) -> bool
-    ensures { λ r. ⌜ r ≡ inGroup file after tag ⌝ }
+// A row with this tag may stand in a group behind its `#`.
+fn may_stand(file: GroupFile, stand: GroupStand, tag: u64) -> bool
+    ensures { λ r. ⌜ r ≡ inGroup file stand tag ⌝ }
 {
     match file {
-        File::Delivery => false,
-        File::Company => false,
-        File::Country => false,
-        File::Trnsmode => false,
-        File::Timezone => is_sign(tag),
-        File::Stations => false,
-        File::Footnote => is_only_vector(after, tag),
-        File::Timetbls => false,
-        File::Changes => tag == 45,
-        File::Xfootnote => is_only_vector(after, tag),
-        File::Xchanges => tag == 45,
+        GroupFile::Timezone => is_sign(tag),
+        GroupFile::Footnote => is_only_vector(stand, tag),
+        GroupFile::Changes => tag == iff::tags::DASH,
+        GroupFile::Xfootnote => is_only_vector(stand, tag),
+        GroupFile::Xchanges => tag == iff::tags::DASH,
     }
 }
 
-// A row with this tag may follow `size` lines of a group.
-pub fn may_follow(file: File, size: usize, tag: u64) -> bool
-    ensures { λ r. ⌜ r ≡ mayFollow file size tag ⌝ }
+// A row with this tag may come where a group stands.
+pub fn may_follow(file: GroupFile, stand: GroupStand, tag: u64) -> bool
+    ensures { λ r. ⌜ r ≡ mayFollow file stand tag ⌝ }
 {
-    if size == 0 {
-        return tag == HASH;
+    match stand {
+        GroupStand::Opening => tag == iff::tags::HASH,
+        GroupStand::Opened => may_stand(file, stand, tag),
+        GroupStand::Going => may_stand(file, stand, tag),
     }
-    may_stand(file, size - 1, tag)
+}
+
+// Where a group stands after a row more.
+pub fn group_moves(stand: GroupStand) -> GroupStand
+    ensures { λ r. ⌜ r ≡ groupMoves stand ⌝ }
+{
+    match stand {
+        GroupStand::Opening => GroupStand::Opened,
+        GroupStand::Opened => GroupStand::Going,
+        GroupStand::Going => GroupStand::Going,
+    }
+}
+
+// A group may end right after its `#`.
+fn ends_opened(file: GroupFile) -> bool
+    ensures { λ r. ⌜ r ≡ endsOpened file ⌝ }
+{
+    match file {
+        GroupFile::Timezone => false,
+        GroupFile::Footnote => false,
+        GroupFile::Changes => true,
+        GroupFile::Xfootnote => false,
+        GroupFile::Xchanges => true,
+    }
+}
+
+// A group may end here; where none was opened, nothing is missing.
+pub fn may_end(file: GroupFile, stand: GroupStand) -> bool
+    ensures { λ r. ⌜ r ≡ mayEnd file stand ⌝ }
+{
+    match stand {
+        GroupStand::Opening => true,
+        GroupStand::Opened => ends_opened(file),
+        GroupStand::Going => true,
+    }
 }
 
 // BLOCKS

@@ -1,5 +1,5 @@
 -- What the readers of files ask and tell: a first line, the rows after it, a whole file.
-use Prim.Native.Nat.{ℕ, suc, _*_, _/_, _≤_, _<_}
+use Prim.Native.Nat.{ℕ, suc, _*_, _/_, _≤_}
 use mathlib.Core.Path.{_≡_}
 use mathlib.Core.List.{List, [], _∷_}
 use mathlib.Core.Bool.{Bool, true, false}
@@ -8,11 +8,12 @@ use lib.ListN.{length, getD, drop, replicate}
 use Rattle.iff.specs.Lists.{same}
 use Rattle.iff.specs.Refusals.{orElse, fine}
 use Rattle.iff.specs.Lines.{Line, lines, noLine}
-use Rattle.iff.specs.Columns.{firstFields, picture, fits}
+use Rattle.iff.specs.Columns.{firstFields, picture, fits, form424}
 use Rattle.iff.specs.Values.{readable}
 use Rattle.iff.specs.Tables.{Row, tag, rowWidth, room, fill, keyTag, keysOf, rising}
 use Rattle.iff.specs.declared.File.{File}
-use Rattle.iff.specs.declared.File.the-variants.{Delivery, Company, Country, Trnsmode, Timezone, Stations, Footnote, Timetbls, Changes, Xfootnote, Xchanges}
+use Rattle.iff.specs.declared.File.the-variants.{Delivery}
+use Rattle.iff.specs.declared.Form.{Form}
 use Rattle.iff.specs.declared.Test.{Test}
 use Rattle.iff.specs.declared.Test.the-variants.{Passes, Fails}
 use Rattle.iff.specs.declared.Verdict.{Verdict}
@@ -38,20 +39,6 @@ pub record FirstLegible (body : List ℕ) : Type 0 where
 pub record FirstRow (f : File) (body row : List ℕ) : Type 0 where
   pub legible : FirstLegible body
   pub width : length row ≡ rowWidth f
-
--- rows of TIMETBLS have their line's number
-abbrev pub isNumbered : File → Bool
-isNumbered Delivery = false
-isNumbered Company = false
-isNumbered Country = false
-isNumbered Trnsmode = false
-isNumbered Timezone = false
-isNumbered Stations = false
-isNumbered Footnote = false
-isNumbered Timetbls = true
-isNumbered Changes = false
-isNumbered Xfootnote = false
-isNumbered Xchanges = false
 
 -- a text's first line
 abbrev pub headLine : List ℕ → Line
@@ -90,21 +77,23 @@ abbrev pub risesOf : RowsRead → Bool
 risesOf (AllRead rises) = rises
 risesOf (Stopped r p) = false
 
--- the verdict for every context of those days that agrees with the tables that were looked into; the rows behind the first; whether their keys rise
-pub record RowsDone (f : File) (days : ℕ) (Agree : Context → Type 0) (due : Context → Verdict) (first : Row) (rows : List Row) (was is : List ℕ) (r : RowsRead) : Type 0 where
-  pub verdict : (c : Context) → c .days ≡ days → Agree c → rowsVerdict r ≡ due c
+-- the verdict for every context of that form that agrees with the tables that were looked into; the rows behind the first; whether their keys rise
+pub record RowsDone (f : File) (form : Form) (Agree : Context → Type 0) (due : Context → Verdict) (first : Row) (rows : List Row) (was is : List ℕ)
+    (r : RowsRead) : Type 0 where
+  pub verdict : (c : Context) → c .form ≡ form → Agree c → rowsVerdict r ≡ due c
   pub table : rowsVerdict r ≡ Fine → is ≡ fill (rowWidth f) (length was) (first ∷ rows)
   pub rises : rowsVerdict r ≡ Fine → risesOf r ≡ rising (keysOf f rows)
   pub kept : length is ≡ length was
 
 -- A WHOLE FILE, after a verdict on what came before it
-pub record FileRead (f : File) (days : ℕ) (Agree : Context → Type 0) (header text : List ℕ) (v : Verdict) (was is : List ℕ) (r : Verdict) : Type 0 where
-  pub verdict : (c : Context) → c .days ≡ days → Agree c → r ≡ orElse v (fileVerdict c header f (lines text))
-  pub table : fine r ≡ true → is ≡ fill (rowWidth f) (length was) (rowsOfLines days f (lines text))
+pub record FileRead (f : File) (form : Form) (Agree : Context → Type 0) (header text : List ℕ) (v : Verdict) (was is : List ℕ)
+    (r : Verdict) : Type 0 where
+  pub verdict : (c : Context) → c .form ≡ form → Agree c → r ≡ orElse v (fileVerdict c header f (lines text))
+  pub table : fine r ≡ true → is ≡ fill (rowWidth f) (length was) (rowsOfLines form f (lines text))
   pub kept : length is ≡ length was
 
 -- DELIVERY, which has its first line alone
 pub record DeliveryRead (text : List ℕ) (v : Verdict) (was is : List ℕ) (r : Verdict) : Type 0 where
   pub verdict : r ≡ orElse v (deliveryVerdict (lines text))
-  pub table : fine r ≡ true → is ≡ fill (rowWidth Delivery) (length was) (rowsOfLines 0 Delivery (lines text))
+  pub table : fine r ≡ true → is ≡ fill (rowWidth Delivery) (length was) (rowsOfLines (form424 0) Delivery (lines text))
   pub kept : length is ≡ length was

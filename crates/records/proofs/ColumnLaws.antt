@@ -4,19 +4,19 @@ use mathlib.Core.Path.{_≡_, refl, ap, sym, _∙_}
 use mathlib.Core.List.{List, [], _∷_, _++_}
 use mathlib.Core.Bool.{Bool, true, false, _&&_}
 use native.Mathlib.Omega.{arith}
-use lib.ListN.{length, take, drop, set, replicate, length-drop, length-set, length-replicate}
+use lib.ListN.{length, take, drop, set, replicate, length-drop, length-set}
 use lib.Seq.{slice, slice-empty, length-take-le}
 use Rattle.iff.specs.Lists.{all}
 use Rattle.iff.specs.Tables.{padded}
 use Rattle.iff.specs.Columns.{Field, columns}
 use Rattle.iff.specs.Values.{fieldRight, fieldWords, words}
 use Rattle.records.specs.declared.Entry.{Entry}
-use Rattle.records.specs.Layouts.{fields, fieldAt, byteOf, wordBy, rightBy, rightIn}
-use Rattle.records.specs.Facts.{EntryOf, Sound, sound, Entries}
-use Rattle.records.proofs.FieldLaws.{word-by, right-by, is-sound, slice-step, all-here, all-next, all-step}
+use Rattle.records.specs.Layouts.{fields, fieldAt, wordBy, rightBy, rightIn}
+use Rattle.records.specs.Facts.{EntryOf, Inside, isInside, Entries}
+use Rattle.records.proofs.FieldLaws.{word-by, right-by, is-inside, slice-step, all-here, all-next, all-step}
 use Rattle.records.proofs.RowLaws.{cleared-length, put-first, put-rest, put-next, put-last}
 
-module _ (j : ℕ) (e : Entry) (o : EntryOf j e) (s : List ℕ) (f : Sound (length s) (fieldAt j)) where
+module _ (j : ℕ) (e : Entry) (o : EntryOf j e) (s : List ℕ) (f : Inside (length s) (fieldAt j)) where
   -- the bytes that the entry says
   abbrev bytes : List ℕ
   bytes = take (e .0 - 1 + e .1 - (e .0 - 1)) (drop (e .0 - 1) s)
@@ -49,32 +49,35 @@ unfolding words
 words-nil n s = refl
 
 -- THE LOOP OVER THE FIELDS OF A RECORD
--- that tests them: what is left to test is the whole, and is sound
+-- that tests them: what is left to test is the whole, and lies inside the line
 pub record Testing (s : List ℕ) (first end j : ℕ) : Type 0 where
   pub inTurn : j ≤ end
   pub whole : rightIn s (slice first end fields) ≡ rightIn s (slice j end fields)
-  pub soundly : all (sound (length s)) (slice j end fields) ≡ true
+  pub allInside : all (isInside (length s)) (slice j end fields) ≡ true
 
 pub test-begin : (s : List ℕ) (first end : ℕ) → Entries first end s → Testing s first end first
-test-begin s first end p = record { inTurn = p .inTurn; whole = refl; soundly = p .allSound }
+test-begin s first end p = record { inTurn = p .inTurn; whole = refl; allInside = p .allInside }
 
 module _ (s : List ℕ) (first end j : ℕ) where
-  right-step : j < end → end ≤ 51 → rightIn s (slice j end fields) ≡ (fieldRight (fieldAt j .class) (columns s (fieldAt j)) && rightIn s (slice (j + 1) end fields))
+  right-step : j < end → end ≤ 51
+      → rightIn s (slice j end fields) ≡ (fieldRight (fieldAt j .class) (columns s (fieldAt j)) && rightIn s (slice (j + 1) end fields))
   unfolding rightIn
   right-step h k = all-step (λ f. fieldRight (f .class) (columns s f)) j end h k
 
-  pub test-sound : j < end → end ≤ 51 → Testing s first end j → Sound (length s) (fieldAt j)
-  test-sound h k l = is-sound _ _ (all-here (sound (length s)) j end h k (l .soundly))
+  pub test-inside : j < end → end ≤ 51 → Testing s first end j → Inside (length s) (fieldAt j)
+  test-inside h k l = is-inside _ _ (all-here (isInside (length s)) j end h k (l .allInside))
 
-  pub test-fails : j < end → end ≤ 51 → Testing s first end j → fieldRight (fieldAt j .class) (columns s (fieldAt j)) ≡ false → false ≡ rightIn s (slice first end fields)
+  pub test-fails : j < end → end ≤ 51 → Testing s first end j → fieldRight (fieldAt j .class) (columns s (fieldAt j)) ≡ false
+      → false ≡ rightIn s (slice first end fields)
   test-fails h k l e = sym (l .whole ∙ right-step h k ∙ rw e)
 
-  pub test-on : j < end → end ≤ 51 → Testing s first end j → fieldRight (fieldAt j .class) (columns s (fieldAt j)) ≡ true → Testing s first end (j + 1)
+  pub test-on : j < end → end ≤ 51 → Testing s first end j → fieldRight (fieldAt j .class) (columns s (fieldAt j)) ≡ true
+      → Testing s first end (j + 1)
   test-on h k l e =
       record {
         inTurn = omega arith;
         whole = l .whole ∙ right-step h k ∙ rw e;
-        soundly = all-next (sound (length s)) j end h k (l .soundly);
+        allInside = all-next (isInside (length s)) j end h k (l .allInside);
       }
 
   pub test-end : end ≤ j → Testing s first end j → true ≡ rightIn s (slice first end fields)
@@ -83,18 +86,19 @@ module _ (s : List ℕ) (first end j : ℕ) where
       let q : j ≡ end = omega arith in
       sym (l .whole ∙ rw (q, slice-empty))
 
--- that puts their words into t, k of them already: what is left to put is what the fields from j on leave, and they are sound
+-- that puts their words into t, k of them already: what is left to put is what the fields from j on leave, and they lie inside the line
 pub record Putting (tag n : ℕ) (s : List ℕ) (first end : ℕ) (t₀ t : List ℕ) (k j : ℕ) : Type 0 where
   pub inTurn : j ≤ end
   pub room : k + (end - j) ≤ length t
   pub small : k ≤ j + 1
   pub kept : length t ≡ length t₀
-  pub soundly : all (sound (length s)) (slice j end fields) ≡ true
+  pub allInside : all (isInside (length s)) (slice j end fields) ≡ true
   pub left : drop k (tag ∷ words n s (slice first end fields)) ≡ words n s (slice j end fields)
   pub put : t ≡ padded (length t₀) (take k (tag ∷ words n s (slice first end fields)))
 
 -- zeros, m of them, with the tag put
-pub put-begin : (tag n : ℕ) (s : List ℕ) (first end m : ℕ) (t : List ℕ) → Entries first end s → end - first < m → t ≡ replicate m 0 → Putting tag n s first end (set t 0 tag) (set t 0 tag) 1 first
+pub put-begin : (tag n : ℕ) (s : List ℕ) (first end m : ℕ) (t : List ℕ) → Entries first end s → end - first < m → t ≡ replicate m 0
+    → Putting tag n s first end (set t 0 tag) (set t 0 tag) 1 first
 put-begin tag n s first end m t p h e =
     let l : length (set t 0 tag) ≡ m = cleared-length m t tag e in
     record {
@@ -102,15 +106,15 @@ put-begin tag n s first end m t p h e =
       room = omega arith;
       small = omega arith;
       kept = refl;
-      soundly = p .allSound;
+      allInside = p .allInside;
       left = refl;
       put = rw l (put-first m tag t (words n s (slice first end fields)) (omega arith) e);
     }
 
 module _ (tag n : ℕ) (s : List ℕ) (first end : ℕ) (t₀ : List ℕ) where
   module _ (t : List ℕ) (k j : ℕ) where
-    pub put-sound : j < end → end ≤ 51 → Putting tag n s first end t₀ t k j → Sound (length s) (fieldAt j)
-    put-sound h b l = is-sound _ _ (all-here (sound (length s)) j end h b (l .soundly))
+    pub put-inside : j < end → end ≤ 51 → Putting tag n s first end t₀ t k j → Inside (length s) (fieldAt j)
+    put-inside h b l = is-inside _ _ (all-here (isInside (length s)) j end h b (l .allInside))
 
     pub put-on : j < end → end ≤ 51 → Putting tag n s first end t₀ t k j → (v : ℕ) → fieldWords n (fieldAt j .class) (columns s (fieldAt j)) ≡ v ∷ []
         → Putting tag n s first end t₀ (set t k v) (k + 1) (j + 1)
@@ -121,13 +125,16 @@ module _ (tag n : ℕ) (s : List ℕ) (first end : ℕ) (t₀ : List ℕ) where
           room = rw length-set (omega arith);
           small = omega arith;
           kept = rw length-set (l .kept);
-          soundly = all-next (sound (length s)) j end h b (l .soundly);
+          allInside = all-next (isInside (length s)) j end h b (l .allInside);
           left = put-rest (length t₀) _ k v _ d;
           put = put-next (length t₀) _ k v _ d t (l .put) (omega arith);
         }
       where
         word-step : words n s (slice j end fields) ≡ v ∷ words n s (slice (j + 1) end fields)
-        word-step = ap (words n s) (slice-step j end h b) ∙ words-cons n s (fieldAt j) _ ∙ ap (λ (l : List ℕ). l ++ words n s (slice (j + 1) end fields)) e
+        word-step =
+            ap (words n s) (slice-step j end h b)
+            ∙ words-cons n s (fieldAt j) _
+            ∙ ap (λ (l : List ℕ). l ++ words n s (slice (j + 1) end fields)) e
 
     pub put-end : end ≤ j → Putting tag n s first end t₀ t k j → (m : ℕ) → length t₀ ≡ m → t ≡ padded m (tag ∷ words n s (slice first end fields))
     put-end h l m e =

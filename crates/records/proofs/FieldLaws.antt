@@ -1,24 +1,27 @@
--- Laws of records and their fields: the code's tables are the definitions' columns, and the fields that leave no word change nothing. Assumes nothing.
-use Prim.Native.Nat.{ℕ, zero, suc, _+_, _-_, _*_, _≤_, _<_}
+-- Laws of records and their fields: the code's tables are the definitions' columns, and fields that leave no word change nothing.
+-- Assumes nothing.
+use Prim.Native.Nat.{ℕ, zero, suc, _+_, _-_, _≤_, _<_}
 use mathlib.Core.Path.{_≡_, refl, ap, sym, _∙_}
 use mathlib.Core.List.{List, [], _∷_, _++_}
 use mathlib.Core.Bool.{Bool, true, false, _&&_, cond, false≢true}
 use native.Mathlib.Omega.{arith}
 use native.Mathlib.Numerals.{add-one}
-use lib.Dec.{eqb, leb}
+use lib.Dec.{leb}
 use lib.ListN.{length, take, drop, List·getD-eq-default}
 use lib.Seq.{slice, slice-cons}
 use borrow.Author.Tests.{eqb-true, leb-true, eq-eqb, ne-eqb}
 use Rattle.text.proofs.PictureLaws.{and-left, and-right, same-length}
 use Rattle.iff.specs.Lists.{all, kept}
-use Rattle.iff.specs.Columns.{Class, Letter, Number, StopNumber, NumberOrAny, Code, Marks, Text, Unread, Field, picture, pictureFrom, recordFields, column, fits, figures, columns}
+use Rattle.iff.specs.Columns.{Class, Letter, Number, StopNumber, NumberOrAny, Code, Marks, Text, Unread, Field, picture, pictureFrom, form424, recordFields, column, fits, figures, columns}
 use Rattle.iff.specs.Values.{words, fieldWords, fieldRight, readable, wordsOf, wordCount}
+use Rattle.iff.specs.declared.Edition.{Edition}
+use Rattle.iff.specs.declared.Edition.the-variants.{Iff424}
+use Rattle.iff.specs.declared.Form.{Form}
 use Rattle.iff.specs.declared.Record.{Record}
 use Rattle.iff.specs.declared.Record.the-variants.{FirstRecord, CompanyRow, CountryRow, ModeRow, ZoneHead, ZonePeriod, StationRow, FootnoteHead, FootnoteVector, ServiceHead, TrainNumber, Validity, Transport, Attribute, PlainStop, Interval, Passed, Platform, ChangeHead, ChangePair, ChangeException}
 use Rattle.records.specs.declared.Spans.{Spans}
-use Rattle.records.specs.declared.Entry.{Entry}
 use Rattle.records.specs.Layouts.{each, pictures, fields, noField, fieldAt, leaves, leaving, spansOf, isVector, byteOf, wordBy, rightBy, rightIn, readableIn}
-use Rattle.records.specs.Facts.{EntryOf, Sound, sound, Entries, SpansFit}
+use Rattle.records.specs.Facts.{EntryOf, Inside, isInside, Entries, SpansFit}
 
 -- WHAT LEAVES NO WORD
 silent : (n : ℕ) (k : Class) (s : List ℕ) → leaves k ≡ false → fieldWords n k s ≡ []
@@ -93,7 +96,8 @@ unfolding fields each kept recordFields
 table-length = refl
 
 -- the entry that says what field j is; columns count from 1
-pub entry-is : (j : ℕ) → leb 1 (fieldAt j .from) ≡ true → EntryOf j (record { 0 = fieldAt j .from; 1 = fieldAt j .width; 2 = byteOf (fieldAt j .class) })
+pub entry-is : (j : ℕ) → leb 1 (fieldAt j .from) ≡ true
+    → EntryOf j (record { 0 = fieldAt j .from; 1 = fieldAt j .width; 2 = byteOf (fieldAt j .class) })
 entry-is j l = record { begins = refl; low = leb-true 1 _ l; wide = refl; classed = refl }
 
 -- a number that is none of those below n
@@ -114,9 +118,9 @@ entry-beyond j h =
     let e : fieldAt j ≡ noField = List·getD-eq-default fields noField (rw table-length (past 51 j h)) in
     rw e at (entry-is j (rw e))
 
--- SOUND ENTRIES, one after the other
-pub is-sound : (room : ℕ) (f : Field) → sound room f ≡ true → Sound room f
-is-sound room f e =
+-- ENTRIES INSIDE A LINE, one after the other
+pub is-inside : (room : ℕ) (f : Field) → isInside room f ≡ true → Inside room f
+is-inside room f e =
     let r = and-right (leb (f .from - 1 + f .width) room) _ e in
     record {
       within = leb-true _ _ (and-left (leb (f .from - 1 + f .width) room) _ e);
@@ -142,27 +146,27 @@ module _ (p : Field → Bool) (j end : ℕ) (h : j < end) (k : end ≤ 51) where
   all-step = unfold-all
 
 -- WHERE EACH RECORD STANDS
-pub record Placed (days : ℕ) (r : Record) (s : Spans) : Type 0 where
+pub record Placed (form : Form) (r : Record) (s : Spans) : Type 0 where
   pub low : s .0 ≤ s .1
   pub top : s .1 ≤ 511
   pub inTurn : s .2 ≤ s .3
   pub inTable : s .3 ≤ 51
-  pub pictured : take (s .1 - s .0) (drop (s .0) pictures) ≡ picture (recordFields days r)
-  pub listed : slice (s .2) (s .3) fields ≡ leaving (recordFields days r)
-  pub counted : s .3 - s .2 ≡ wordCount (recordFields days r)
-  pub soundly : all (sound (length (picture (recordFields days r)))) (slice (s .2) (s .3) fields) ≡ true
+  pub pictured : take (s .1 - s .0) (drop (s .0) pictures) ≡ picture (recordFields form r)
+  pub listed : slice (s .2) (s .3) fields ≡ leaving (recordFields form r)
+  pub counted : s .3 - s .2 ≡ wordCount (recordFields form r)
+  pub allInside : all (isInside (length (picture (recordFields form r)))) (slice (s .2) (s .3) fields) ≡ true
 
 unfoldable ordered : Spans → Bool
 ordered s = leb (s .0) (s .1) && (leb (s .1) 511 && (leb (s .2) (s .3) && leb (s .3) 51))
 
-place : (days : ℕ) (r : Record) (s : Spans) → ordered s ≡ true
-    → take (s .1 - s .0) (drop (s .0) pictures) ≡ picture (recordFields days r)
-    → slice (s .2) (s .3) fields ≡ leaving (recordFields days r)
-    → s .3 - s .2 ≡ wordCount (recordFields days r)
-    → all (sound (length (picture (recordFields days r)))) (slice (s .2) (s .3) fields) ≡ true
-    → Placed days r s
+place : (form : Form) (r : Record) (s : Spans) → ordered s ≡ true
+    → take (s .1 - s .0) (drop (s .0) pictures) ≡ picture (recordFields form r)
+    → slice (s .2) (s .3) fields ≡ leaving (recordFields form r)
+    → s .3 - s .2 ≡ wordCount (recordFields form r)
+    → all (isInside (length (picture (recordFields form r)))) (slice (s .2) (s .3) fields) ≡ true
+    → Placed form r s
 unfolding ordered
-place days r s o p l c t =
+place form r s o p l c t =
     let a = and-right (leb (s .0) (s .1)) _ o in
     let b = and-right (leb (s .1) 511) _ a in
     record {
@@ -173,78 +177,84 @@ place days r s o p l c t =
       pictured = p;
       listed = l;
       counted = c;
-      soundly = t;
+      allInside = t;
     }
 
-pub placed : (days : ℕ) (r : Record) → isVector r ≡ false → Placed days r (spansOf r)
+-- each record in an edition
+placed-in : (days : ℕ) (e : Edition) (r : Record) → isVector r ≡ false → Placed (record { days = days; edition = e }) r (spansOf r)
 unfolding ordered pictures fields each kept recordFields pictureFrom all
-placed days FirstRecord h = place days FirstRecord _ refl refl refl refl refl
-placed days CompanyRow h = place days CompanyRow _ refl refl refl refl refl
-placed days CountryRow h = place days CountryRow _ refl refl refl refl refl
-placed days ModeRow h = place days ModeRow _ refl refl refl refl refl
-placed days ZoneHead h = place days ZoneHead _ refl refl refl refl refl
-placed days ZonePeriod h = place days ZonePeriod _ refl refl refl refl refl
-placed days StationRow h = place days StationRow _ refl refl refl refl refl
-placed days FootnoteHead h = place days FootnoteHead _ refl refl refl refl refl
-placed days FootnoteVector h = absurd (false≢true (sym h))
-placed days ServiceHead h = place days ServiceHead _ refl refl refl refl refl
-placed days TrainNumber h = place days TrainNumber _ refl refl refl refl refl
-placed days Validity h = place days Validity _ refl refl refl refl refl
-placed days Transport h = place days Transport _ refl refl refl refl refl
-placed days Attribute h = place days Attribute _ refl refl refl refl refl
-placed days PlainStop h = place days PlainStop _ refl refl refl refl refl
-placed days Interval h = place days Interval _ refl refl refl refl refl
-placed days Passed h = place days Passed _ refl refl refl refl refl
-placed days Platform h = place days Platform _ refl refl refl refl refl
-placed days ChangeHead h = place days ChangeHead _ refl refl refl refl refl
-placed days ChangePair h = place days ChangePair _ refl refl refl refl refl
-placed days ChangeException h = place days ChangeException _ refl refl refl refl refl
+placed-in days Iff424 FirstRecord h = place (form424 days) FirstRecord _ refl refl refl refl refl
+placed-in days Iff424 CompanyRow h = place (form424 days) CompanyRow _ refl refl refl refl refl
+placed-in days Iff424 CountryRow h = place (form424 days) CountryRow _ refl refl refl refl refl
+placed-in days Iff424 ModeRow h = place (form424 days) ModeRow _ refl refl refl refl refl
+placed-in days Iff424 ZoneHead h = place (form424 days) ZoneHead _ refl refl refl refl refl
+placed-in days Iff424 ZonePeriod h = place (form424 days) ZonePeriod _ refl refl refl refl refl
+placed-in days Iff424 StationRow h = place (form424 days) StationRow _ refl refl refl refl refl
+placed-in days Iff424 FootnoteHead h = place (form424 days) FootnoteHead _ refl refl refl refl refl
+placed-in days Iff424 FootnoteVector h = absurd (false≢true (sym h))
+placed-in days Iff424 ServiceHead h = place (form424 days) ServiceHead _ refl refl refl refl refl
+placed-in days Iff424 TrainNumber h = place (form424 days) TrainNumber _ refl refl refl refl refl
+placed-in days Iff424 Validity h = place (form424 days) Validity _ refl refl refl refl refl
+placed-in days Iff424 Transport h = place (form424 days) Transport _ refl refl refl refl refl
+placed-in days Iff424 Attribute h = place (form424 days) Attribute _ refl refl refl refl refl
+placed-in days Iff424 PlainStop h = place (form424 days) PlainStop _ refl refl refl refl refl
+placed-in days Iff424 Interval h = place (form424 days) Interval _ refl refl refl refl refl
+placed-in days Iff424 Passed h = place (form424 days) Passed _ refl refl refl refl refl
+placed-in days Iff424 Platform h = place (form424 days) Platform _ refl refl refl refl refl
+placed-in days Iff424 ChangeHead h = place (form424 days) ChangeHead _ refl refl refl refl refl
+placed-in days Iff424 ChangePair h = place (form424 days) ChangePair _ refl refl refl refl refl
+placed-in days Iff424 ChangeException h = place (form424 days) ChangeException _ refl refl refl refl refl
+
+pub placed : (form : Form) (r : Record) → isVector r ≡ false → Placed form r (spansOf r)
+placed form r h = placed-in (form .days) (form .edition) r h
 
 -- the vector
-pub vector-fields : (days : ℕ) (r : Record) → isVector r ≡ true → recordFields days r ≡ recordFields days FootnoteVector
-vector-fields days FirstRecord h = absurd (false≢true h)
-vector-fields days CompanyRow h = absurd (false≢true h)
-vector-fields days CountryRow h = absurd (false≢true h)
-vector-fields days ModeRow h = absurd (false≢true h)
-vector-fields days ZoneHead h = absurd (false≢true h)
-vector-fields days ZonePeriod h = absurd (false≢true h)
-vector-fields days StationRow h = absurd (false≢true h)
-vector-fields days FootnoteHead h = absurd (false≢true h)
-vector-fields days FootnoteVector h = refl
-vector-fields days ServiceHead h = absurd (false≢true h)
-vector-fields days TrainNumber h = absurd (false≢true h)
-vector-fields days Validity h = absurd (false≢true h)
-vector-fields days Transport h = absurd (false≢true h)
-vector-fields days Attribute h = absurd (false≢true h)
-vector-fields days PlainStop h = absurd (false≢true h)
-vector-fields days Interval h = absurd (false≢true h)
-vector-fields days Passed h = absurd (false≢true h)
-vector-fields days Platform h = absurd (false≢true h)
-vector-fields days ChangeHead h = absurd (false≢true h)
-vector-fields days ChangePair h = absurd (false≢true h)
-vector-fields days ChangeException h = absurd (false≢true h)
+pub vector-fields : (form : Form) (r : Record) → isVector r ≡ true → recordFields form r ≡ recordFields form FootnoteVector
+vector-fields form FirstRecord h = absurd (false≢true h)
+vector-fields form CompanyRow h = absurd (false≢true h)
+vector-fields form CountryRow h = absurd (false≢true h)
+vector-fields form ModeRow h = absurd (false≢true h)
+vector-fields form ZoneHead h = absurd (false≢true h)
+vector-fields form ZonePeriod h = absurd (false≢true h)
+vector-fields form StationRow h = absurd (false≢true h)
+vector-fields form FootnoteHead h = absurd (false≢true h)
+vector-fields form FootnoteVector h = refl
+vector-fields form ServiceHead h = absurd (false≢true h)
+vector-fields form TrainNumber h = absurd (false≢true h)
+vector-fields form Validity h = absurd (false≢true h)
+vector-fields form Transport h = absurd (false≢true h)
+vector-fields form Attribute h = absurd (false≢true h)
+vector-fields form PlainStop h = absurd (false≢true h)
+vector-fields form Interval h = absurd (false≢true h)
+vector-fields form Passed h = absurd (false≢true h)
+vector-fields form Platform h = absurd (false≢true h)
+vector-fields form ChangeHead h = absurd (false≢true h)
+vector-fields form ChangePair h = absurd (false≢true h)
+vector-fields form ChangeException h = absurd (false≢true h)
 
 -- a record's part of the tables, as the code has it: empty, or placed
-module _ (days : ℕ) (r : Record) (s : Spans) (e : s ≡ spansOf r) where
-  pub fixed-place : (s .1 ≡ 0 → ⊥) → Placed days r s
-  fixed-place h = rw e (placed days r (ne-eqb (spansOf r .1) 0 (λ z. h (ap (λ (t : Spans). t .1) e ∙ z))))
+module _ (form : Form) (r : Record) (s : Spans) (e : s ≡ spansOf r) where
+  pub fixed-place : (s .1 ≡ 0 → ⊥) → Placed form r s
+  fixed-place h = rw e (placed form r (ne-eqb (spansOf r .1) 0 (λ z. h (ap (λ (t : Spans). t .1) e ∙ z))))
 
-  pub is-vector : s .1 ≡ 0 → recordFields days r ≡ recordFields days FootnoteVector
-  is-vector h = vector-fields days r (eq-eqb (spansOf r .1) 0 (sym (ap (λ (t : Spans). t .1) e) ∙ h))
+  pub is-vector : s .1 ≡ 0 → recordFields form r ≡ recordFields form FootnoteVector
+  is-vector h = vector-fields form r (eq-eqb (spansOf r .1) 0 (sym (ap (λ (t : Spans). t .1) e) ∙ h))
 
 -- a line that fits its record has its part of the tables
-module _ (days : ℕ) (r : Record) (s : Spans) (p : Placed days r s) (body : List ℕ) where
-  pub entries-in : fits body (picture (recordFields days r)) ≡ true → Entries (s .2) (s .3) body
+module _ (form : Form) (r : Record) (s : Spans) (p : Placed form r s) (body : List ℕ) where
+  pub entries-in : fits body (picture (recordFields form r)) ≡ true → Entries (s .2) (s .3) body
   entries-in f =
-      let n : length body ≡ length (picture (recordFields days r)) = same-length column _ _ f in
-      record { inTurn = p .inTurn; inTable = p .inTable; allSound = rw n (p .soundly) }
+      let n : length body ≡ length (picture (recordFields form r)) = same-length column _ _ f in
+      record { inTurn = p .inTurn; inTable = p .inTable; allInside = rw n (p .allInside) }
 
   pub spans-fit : SpansFit s body
   spans-fit = record { low = p .low; top = p .top; fitted = λ f. entries-in (sym (ap (fits body) (p .pictured)) ∙ f) }
 
-  pub readable-in : readableIn s body ≡ readable body (recordFields days r)
+  pub readable-in : readableIn s body ≡ readable body (recordFields form r)
   unfolding readableIn readable rightIn
-  readable-in = rw (p .pictured, p .listed) (ap (λ (t : Bool). figures body (picture (recordFields days r)) && t) (right-leaving body (recordFields days r)))
+  readable-in =
+      rw (p .pictured, p .listed)
+      (ap (λ (t : Bool). figures body (picture (recordFields form r)) && t) (right-leaving body (recordFields form r)))
 
-  pub words-in : (n : ℕ) → words n body (slice (s .2) (s .3) fields) ≡ words n body (recordFields days r)
-  words-in n = ap (words n body) (p .listed) ∙ words-leaving n body (recordFields days r)
+  pub words-in : (n : ℕ) → words n body (slice (s .2) (s .3) fields) ≡ words n body (recordFields form r)
+  words-in n = ap (words n body) (p .listed) ∙ words-leaving n body (recordFields form r)

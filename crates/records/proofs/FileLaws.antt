@@ -6,27 +6,48 @@ use mathlib.Core.Bool.{Bool, true, false, not, cond, false≢true}
 use native.Mathlib.Omega.{arith}
 use lib.Dec.{eqb, lit≤}
 use lib.ListN.{length}
-use borrow.Author.Tests.{eqb-true, ne-eqb}
+use borrow.Author.Tests.{ne-eqb}
 use Rattle.text.proofs.PictureLaws.{and-left, and-right}
 use Rattle.iff.specs.Bytes.{hash, at}
 use Rattle.iff.specs.Lists.{any, all}
 use Rattle.iff.specs.Lines.{Line, letter}
-use Rattle.iff.specs.Columns.{Class, Letter, Number, StopNumber, NumberOrAny, Code, Marks, Text, Unread, Field, on, recordFields, recordOf, blockRecord, fieldsOf, columns}
-use Rattle.iff.specs.Values.{words, fieldWords, wordCount}
+use Rattle.iff.specs.Columns.{Class, Letter, Number, StopNumber, NumberOrAny, Code, Marks, Text, Unread, Field, on, columns}
+use Rattle.iff.specs.Columns.{recordFields, rowRecord, groupRecord, blockRecord, recordOf, fieldsOf, picture, fits, laid}
+use Rattle.iff.specs.Values.{words, fieldWords, wordCount, readable}
 use Rattle.iff.specs.Tables.{tag, letterless, rowWidth, padded}
+use Rattle.iff.specs.declared.Form.{Form}
+use Rattle.iff.specs.declared.RowFile.{RowFile}
+use Rattle.iff.specs.declared.RowFile.the-variants.{Company, Country, Trnsmode, Stations}
+use Rattle.iff.specs.declared.GroupFile.{GroupFile}
+use Rattle.iff.specs.declared.GroupFile.the-variants.{Timezone, Footnote, Changes, Xfootnote, Xchanges}
 use Rattle.iff.specs.declared.File.{File}
-use Rattle.iff.specs.declared.File.the-variants.{Delivery, Company, Country, Trnsmode, Timezone, Stations, Footnote, Timetbls, Changes, Xfootnote, Xchanges}
+use Rattle.iff.specs.declared.File.the-variants.{Delivery, Rows, Groups, Timetbls}
 use Rattle.iff.specs.declared.Record.{Record}
 use Rattle.iff.specs.declared.Record.the-variants.{FirstRecord, CompanyRow, CountryRow, ModeRow, ZoneHead, ZonePeriod, StationRow, FootnoteHead, FootnoteVector, ServiceHead, TrainNumber, Validity, Transport, Attribute, PlainStop, Interval, Passed, Platform, ChangeHead, ChangePair, ChangeException}
-use Rattle.iff_rules.specs.Order.{letters, known, tagOf, vectorTag}
+use Rattle.iff_rules.specs.Order.{knownInGroup, knownInBlock, groupTag, tagOf, vectorTag}
 use Rattle.iff_rules.specs.Rows.{rowOf}
 use Rattle.tables.proofs.Rows.{Used}
+use Rattle.records.specs.Layouts.{legible}
+use Rattle.records.specs.Facts.{Legible}
 use Rattle.records.proofs.RowLaws.{words-length, padded-length}
 
+-- THE FIELDS OF A LINE, by kind of file
+pub row-fields : (form : Form) (f : RowFile) (x : ℕ) → fieldsOf form (Rows f) x ≡ recordFields form (rowRecord f)
+unfolding fieldsOf recordOf
+row-fields form f x = refl
+
+pub group-fields : (form : Form) (f : GroupFile) (x : ℕ) → fieldsOf form (Groups f) x ≡ recordFields form (groupRecord f x)
+unfolding fieldsOf recordOf
+group-fields form f x = refl
+
+pub block-fields : (form : Form) (x : ℕ) → fieldsOf form Timetbls x ≡ recordFields form (blockRecord x)
+unfolding fieldsOf recordOf
+block-fields form x = refl
+
 -- ROOM: a row has a word for the tag and for each field that leaves one
-module _ (days m : ℕ) where
+module _ (form : Form) (m : ℕ) where
   abbrev Small : Record → Type 0
-  Small r = suc (wordCount (recordFields days r)) ≤ m
+  Small r = suc (wordCount (recordFields form r)) ≤ m
 
   either : (x k : ℕ) (a b : Record) → Small a → Small b → Small (on x k a b)
   either x k a b p q = go (eqb x k)
@@ -35,50 +56,70 @@ module _ (days m : ℕ) where
       go true = p
       go false = q
 
--- in a block there is one word more, for the line's number
-pub block-room : (days x : ℕ) → suc (wordCount (fieldsOf days Timetbls x)) ≤ 5
-unfolding fieldsOf recordOf blockRecord recordFields
-block-room days x =
-    either days 5 x _ ServiceHead _ (lit≤ tt)
-    (either days 5 x _ TrainNumber _ (lit≤ tt)
-    (either days 5 x _ Validity _ (lit≤ tt)
-    (either days 5 x _ Transport _ (lit≤ tt)
-    (either days 5 x _ Attribute _ (lit≤ tt)
-    (either days 5 x _ Interval _ (lit≤ tt)
-    (either days 5 x _ Passed _ (lit≤ tt)
-    (either days 5 x _ Platform PlainStop (lit≤ tt) (lit≤ tt))))))))
+pub row-room : (form : Form) (f : RowFile) → suc (wordCount (recordFields form (rowRecord f))) ≤ rowWidth (Rows f)
+unfolding recordFields
+row-room form Company = lit≤ tt
+row-room form Country = lit≤ tt
+row-room form Trnsmode = lit≤ tt
+row-room form Stations = lit≤ tt
 
-pub row-room : (days : ℕ) (f : File) (x : ℕ) → suc (wordCount (fieldsOf days f x)) ≤ rowWidth f
+pub group-room : (form : Form) (f : GroupFile) (x : ℕ) → suc (wordCount (recordFields form (groupRecord f x))) ≤ rowWidth (Groups f)
+unfolding recordFields
+group-room form Timezone x = either form 6 x _ ZoneHead ZonePeriod (lit≤ tt) (lit≤ tt)
+group-room form Footnote x = either form 14 x _ FootnoteHead FootnoteVector (lit≤ tt) (lit≤ tt)
+group-room form Changes x = either form 6 x _ ChangeHead ChangePair (lit≤ tt) (lit≤ tt)
+group-room form Xfootnote x = either form 14 x _ FootnoteHead FootnoteVector (lit≤ tt) (lit≤ tt)
+group-room form Xchanges x = either form 7 x _ ChangeHead ChangeException (lit≤ tt) (lit≤ tt)
+
+-- in a block there is one word more, for the line's number
+pub block-room : (form : Form) (x : ℕ) → suc (wordCount (recordFields form (blockRecord x))) ≤ 5
+unfolding blockRecord recordFields
+block-room form x =
+    either form 5 x _ ServiceHead _ (lit≤ tt)
+    (either form 5 x _ TrainNumber _ (lit≤ tt)
+    (either form 5 x _ Validity _ (lit≤ tt)
+    (either form 5 x _ Transport _ (lit≤ tt)
+    (either form 5 x _ Attribute _ (lit≤ tt)
+    (either form 5 x _ Interval _ (lit≤ tt)
+    (either form 5 x _ Passed _ (lit≤ tt)
+    (either form 5 x _ Platform PlainStop (lit≤ tt) (lit≤ tt))))))))
+
+-- of any file
+room-for : (form : Form) (f : File) (x : ℕ) → suc (wordCount (fieldsOf form f x)) ≤ rowWidth f
 unfolding fieldsOf recordOf recordFields
-row-room days Delivery x = lit≤ tt
-row-room days Company x = lit≤ tt
-row-room days Country x = lit≤ tt
-row-room days Trnsmode x = lit≤ tt
-row-room days Timezone x = either days 6 x _ ZoneHead ZonePeriod (lit≤ tt) (lit≤ tt)
-row-room days Stations x = lit≤ tt
-row-room days Footnote x = either days 14 x _ FootnoteHead FootnoteVector (lit≤ tt) (lit≤ tt)
-row-room days Timetbls x = omega (arith, block-room days x)
-row-room days Changes x = either days 6 x _ ChangeHead ChangePair (lit≤ tt) (lit≤ tt)
-row-room days Xfootnote x = either days 14 x _ FootnoteHead FootnoteVector (lit≤ tt) (lit≤ tt)
-row-room days Xchanges x = either days 7 x _ ChangeHead ChangeException (lit≤ tt) (lit≤ tt)
+room-for form Delivery x = lit≤ tt
+room-for form (Rows f) x = row-room form f
+room-for form (Groups f) x = group-room form f x
+room-for form Timetbls x = omega (arith, block-room form x)
 
 -- THE ROW OF A LINE
-pub row-length : (days : ℕ) (f : File) (l : Line) → length (rowOf days f l) ≡ rowWidth f
+pub row-length : (form : Form) (f : File) (l : Line) → length (rowOf form f l) ≡ rowWidth f
 unfolding rowOf
-row-length days f l =
-    padded-length (rowWidth f) _ (rw (words-length 0 (l .body) (fieldsOf days f (letter l))) (row-room days f (letter l)))
+row-length form f l =
+    padded-length (rowWidth f) _ (rw (words-length 0 (l .body) (fieldsOf form f (letter l))) (room-for form f (letter l)))
 
-pub row-tag : (days : ℕ) (f : File) (l : Line) → tag (rowOf days f l) ≡ tagOf f (letter l)
+pub row-tag : (form : Form) (f : File) (l : Line) → tag (rowOf form f l) ≡ tagOf f (letter l)
 unfolding rowOf padded
-row-tag days f l = refl
+row-tag form f l = refl
 
 -- the row that `put_words` leaves in a row of the file's width
-pub row-put : (days : ℕ) (f : File) (l : Line)
-    → padded (rowWidth f) (tagOf f (letter l) ∷ words 0 (l .body) (recordFields days (recordOf f (letter l)))) ≡ rowOf days f l
-unfolding rowOf fieldsOf
-row-put days f l = refl
+pub row-put : (form : Form) (f : RowFile) (l : Line)
+    → padded (rowWidth (Rows f)) (letterless ∷ words 0 (l .body) (recordFields form (rowRecord f))) ≡ rowOf form (Rows f) l
+unfolding rowOf fieldsOf recordOf
+row-put form f l = refl
 
--- a tag is never 0: not that of a vector's file
+pub group-put : (form : Form) (f : GroupFile) (l : Line)
+    → padded (rowWidth (Groups f)) (groupTag f (letter l) ∷ words 0 (l .body) (recordFields form (groupRecord f (letter l))))
+    ≡ rowOf form (Groups f) l
+unfolding rowOf fieldsOf recordOf
+group-put form f l = refl
+
+pub block-put : (form : Form) (l : Line)
+    → padded (rowWidth Timetbls) (letter l ∷ words 0 (l .body) (recordFields form (blockRecord (letter l)))) ≡ rowOf form Timetbls l
+unfolding rowOf fieldsOf recordOf
+block-put form l = refl
+
+-- A TAG IS NEVER 0: not that of a vector's file
 vector-used : (x : ℕ) → eqb (vectorTag x) 0 ≡ false
 vector-used x = go (eqb x hash) (eqb x at)
   where
@@ -87,41 +128,43 @@ vector-used x = go (eqb x hash) (eqb x at)
     go false true = refl
     go false false = refl
 
--- nor a letter that a file knows, since no file knows 0
-letter-used : (f : File) (x : ℕ) → known f 0 ≡ false → known f x ≡ true → eqb x 0 ≡ false
-letter-used f x n k = ne-eqb x 0 (λ z. false≢true (sym n ∙ ap (known f) (sym z) ∙ k))
+-- nor a letter that is known, since none knows 0
+letter-used : (known : ℕ → Bool) (x : ℕ) → known 0 ≡ false → known x ≡ true → eqb x 0 ≡ false
+letter-used known x n k = ne-eqb x 0 (λ z. false≢true (sym n ∙ ap known (sym z) ∙ k))
 
-pub known-used : (f : File) (x : ℕ) → known f x ≡ true → eqb (tagOf f x) 0 ≡ false
+pub known-used : (f : GroupFile) (x : ℕ) → knownInGroup f x ≡ true → eqb (groupTag f x) 0 ≡ false
 unfolding any
-known-used Delivery x k = refl
-known-used Company x k = refl
-known-used Country x k = refl
-known-used Trnsmode x k = refl
-known-used Timezone x k = letter-used Timezone x refl k
-known-used Stations x k = refl
+known-used Timezone x k = letter-used (knownInGroup Timezone) x refl k
 known-used Footnote x k = vector-used x
-known-used Timetbls x k = letter-used Timetbls x refl k
-known-used Changes x k = letter-used Changes x refl k
+known-used Changes x k = letter-used (knownInGroup Changes) x refl k
 known-used Xfootnote x k = vector-used x
-known-used Xchanges x k = letter-used Xchanges x refl k
+known-used Xchanges x k = letter-used (knownInGroup Xchanges) x refl k
 
--- nor that of a file without letters
-pub plain-used : (f : File) (x : ℕ) → letters f ≡ [] → eqb (tagOf f x) 0 ≡ false
-plain-used Delivery x k = refl
-plain-used Company x k = refl
-plain-used Country x k = refl
-plain-used Trnsmode x k = refl
-plain-used Timezone x k = absurd (let z : _≡_ {A = ℕ} 0 1 = cc in omega arith)
-plain-used Stations x k = refl
-plain-used Footnote x k = absurd (let z : _≡_ {A = ℕ} 0 1 = cc in omega arith)
-plain-used Timetbls x k = absurd (let z : _≡_ {A = ℕ} 0 1 = cc in omega arith)
-plain-used Changes x k = absurd (let z : _≡_ {A = ℕ} 0 1 = cc in omega arith)
-plain-used Xfootnote x k = absurd (let z : _≡_ {A = ℕ} 0 1 = cc in omega arith)
-plain-used Xchanges x k = absurd (let z : _≡_ {A = ℕ} 0 1 = cc in omega arith)
+pub block-known-used : (x : ℕ) → knownInBlock x ≡ true → eqb x 0 ≡ false
+unfolding any
+block-known-used x k = letter-used knownInBlock x refl k
 
 -- so a line that has passed leaves a row that is in use
-pub row-used : (days : ℕ) (f : File) (l : Line) → eqb (tagOf f (letter l)) 0 ≡ false → Used (rowWidth f) (rowOf days f l)
-row-used days f l u = (row-length days f l, rw row-tag u)
+pub row-used : (form : Form) (f : File) (l : Line) → eqb (tagOf f (letter l)) 0 ≡ false → Used (rowWidth f) (rowOf form f l)
+row-used form f l u = (row-length form f l, rw row-tag u)
+
+-- LEGIBLE LINES OF A BLOCK
+pub legible-line : (form : Form) (l : Line) → laid l (fieldsOf form Timetbls (letter l)) ≡ true
+    → readable (l .body) (fieldsOf form Timetbls (letter l)) ≡ true
+    → legible form l ≡ true
+unfolding legible
+legible-line form l a b = rw (and-right (l .ended) _ a, b)
+
+-- so a row of five words has room for one
+pub can-be-put : (form : Form) (l : Line) → legible form l ≡ true → (room : ℕ) → 5 ≤ room → Legible form (blockRecord (letter l)) (l .body) room
+unfolding legible fieldsOf recordOf
+can-be-put form l e room h =
+    let fs = recordFields form (blockRecord (letter l)) in
+    record {
+      fitting = and-left (fits (l .body) (picture fs)) (readable (l .body) fs) e;
+      reading = and-right (fits (l .body) (picture fs)) (readable (l .body) fs) e;
+      roomy = omega (arith, block-room form (letter l));
+    }
 
 -- WORDS THAT DO NOT DEPEND ON THE NUMBER OF STOPS
 abbrev isStopNumber : Class → Bool
@@ -145,7 +188,8 @@ settled-field n m Marks s e = refl
 settled-field n m Text s e = refl
 settled-field n m Unread s e = refl
 
-pub settled-words : (n m : ℕ) (body : List ℕ) (fs : List Field) → all (λ f. not (isStopNumber (f .class))) fs ≡ true → words n body fs ≡ words m body fs
+pub settled-words : (n m : ℕ) (body : List ℕ) (fs : List Field) → all (λ f. not (isStopNumber (f .class))) fs ≡ true
+    → words n body fs ≡ words m body fs
 unfolding words all
 settled-words n m body [] e = refl
 settled-words n m body (f ∷ fs) e =
@@ -176,26 +220,27 @@ isSettled ChangeHead = true
 isSettled ChangePair = true
 isSettled ChangeException = true
 
-pub words-settled : (n m days : ℕ) (body : List ℕ) (r : Record) → isSettled r ≡ true → words n body (recordFields days r) ≡ words m body (recordFields days r)
+pub words-settled : (n m : ℕ) (form : Form) (body : List ℕ) (r : Record) → isSettled r ≡ true
+    → words n body (recordFields form r) ≡ words m body (recordFields form r)
 unfolding recordFields all
-words-settled n m days body FirstRecord e = settled-words n m body (recordFields days FirstRecord) refl
-words-settled n m days body CompanyRow e = settled-words n m body (recordFields days CompanyRow) refl
-words-settled n m days body CountryRow e = settled-words n m body (recordFields days CountryRow) refl
-words-settled n m days body ModeRow e = settled-words n m body (recordFields days ModeRow) refl
-words-settled n m days body ZoneHead e = settled-words n m body (recordFields days ZoneHead) refl
-words-settled n m days body ZonePeriod e = settled-words n m body (recordFields days ZonePeriod) refl
-words-settled n m days body StationRow e = settled-words n m body (recordFields days StationRow) refl
-words-settled n m days body FootnoteHead e = settled-words n m body (recordFields days FootnoteHead) refl
-words-settled n m days body FootnoteVector e = settled-words n m body (recordFields days FootnoteVector) refl
-words-settled n m days body ServiceHead e = settled-words n m body (recordFields days ServiceHead) refl
-words-settled n m days body TrainNumber e = absurd (false≢true e)
-words-settled n m days body Validity e = absurd (false≢true e)
-words-settled n m days body Transport e = absurd (false≢true e)
-words-settled n m days body Attribute e = absurd (false≢true e)
-words-settled n m days body PlainStop e = settled-words n m body (recordFields days PlainStop) refl
-words-settled n m days body Interval e = settled-words n m body (recordFields days Interval) refl
-words-settled n m days body Passed e = settled-words n m body (recordFields days Passed) refl
-words-settled n m days body Platform e = settled-words n m body (recordFields days Platform) refl
-words-settled n m days body ChangeHead e = settled-words n m body (recordFields days ChangeHead) refl
-words-settled n m days body ChangePair e = settled-words n m body (recordFields days ChangePair) refl
-words-settled n m days body ChangeException e = settled-words n m body (recordFields days ChangeException) refl
+words-settled n m form body FirstRecord e = settled-words n m body (recordFields form FirstRecord) refl
+words-settled n m form body CompanyRow e = settled-words n m body (recordFields form CompanyRow) refl
+words-settled n m form body CountryRow e = settled-words n m body (recordFields form CountryRow) refl
+words-settled n m form body ModeRow e = settled-words n m body (recordFields form ModeRow) refl
+words-settled n m form body ZoneHead e = settled-words n m body (recordFields form ZoneHead) refl
+words-settled n m form body ZonePeriod e = settled-words n m body (recordFields form ZonePeriod) refl
+words-settled n m form body StationRow e = settled-words n m body (recordFields form StationRow) refl
+words-settled n m form body FootnoteHead e = settled-words n m body (recordFields form FootnoteHead) refl
+words-settled n m form body FootnoteVector e = settled-words n m body (recordFields form FootnoteVector) refl
+words-settled n m form body ServiceHead e = settled-words n m body (recordFields form ServiceHead) refl
+words-settled n m form body TrainNumber e = absurd (false≢true e)
+words-settled n m form body Validity e = absurd (false≢true e)
+words-settled n m form body Transport e = absurd (false≢true e)
+words-settled n m form body Attribute e = absurd (false≢true e)
+words-settled n m form body PlainStop e = settled-words n m body (recordFields form PlainStop) refl
+words-settled n m form body Interval e = settled-words n m body (recordFields form Interval) refl
+words-settled n m form body Passed e = settled-words n m body (recordFields form Passed) refl
+words-settled n m form body Platform e = settled-words n m body (recordFields form Platform) refl
+words-settled n m form body ChangeHead e = settled-words n m body (recordFields form ChangeHead) refl
+words-settled n m form body ChangePair e = settled-words n m body (recordFields form ChangePair) refl
+words-settled n m form body ChangeException e = settled-words n m body (recordFields form ChangeException) refl

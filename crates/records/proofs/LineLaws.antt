@@ -1,18 +1,19 @@
 -- Laws of one line of one record, by whether the record is the vector or has fixed columns. Assumes nothing.
-use Prim.Native.Nat.{ℕ, suc, _+_, _-_, _≤_, _<_}
+use Prim.Native.Nat.{ℕ, suc, _-_, _≤_, _<_}
 use mathlib.Core.Path.{_≡_, refl, ap, sym, _∙_}
-use mathlib.Core.List.{List, [], _∷_}
-use mathlib.Core.Bool.{Bool, true, false, _&&_}
+use mathlib.Core.List.{List, _∷_}
+use mathlib.Core.Bool.{Bool, true, false}
 use native.Mathlib.Omega.{arith}
-use lib.ListN.{length, take, drop, replicate}
+use lib.ListN.{take, drop, replicate}
 use lib.Seq.{slice}
 use Rattle.text.proofs.PictureLaws.{and-right}
 use Rattle.iff.specs.Bytes.{zeroOrOne}
 use Rattle.iff.specs.Lists.{all}
-use Rattle.iff.specs.Refusals.{orTest, unless}
+use Rattle.iff.specs.Refusals.{unless}
 use Rattle.iff.specs.Columns.{Field, fits, picture, laid, recordFields}
 use Rattle.iff.specs.Values.{readable, words, wordCount, vectorWords, vectorWidth}
 use Rattle.iff.specs.Tables.{padded}
+use Rattle.iff.specs.declared.Form.{Form}
 use Rattle.iff.specs.declared.Record.{Record}
 use Rattle.iff.specs.declared.Record.the-variants.{FootnoteVector}
 use Rattle.iff.specs.declared.Reason.{Reason}
@@ -21,69 +22,73 @@ use Rattle.iff.specs.declared.Test.{Test}
 use Rattle.iff.specs.declared.Test.the-variants.{Passes, Fails}
 use Rattle.records.specs.declared.Spans.{Spans}
 use Rattle.records.specs.declared.Looks.{Looks}
-use Rattle.records.specs.Layouts.{lineOf, pictures, fields, spansOf, rightIn, pictureIn, readableIn, inOrder}
+use Rattle.records.specs.Layouts.{lineOf, pictures, fields, spansOf, rightIn, pictureIn, readableIn, inOrder, layoutTest}
 use Rattle.records.specs.Facts.{Legible, LooksBy, Entries, SpansFit}
-use Rattle.records.proofs.FieldLaws.{Placed, fixed-place, is-vector, entries-in, spans-fit, readable-in, words-in}
+use Rattle.records.proofs.FieldLaws.{fixed-place, is-vector, entries-in, spans-fit, readable-in, words-in}
 use Rattle.records.proofs.VectorLaws.{vector-picture, vector-readable, vector-words-in}
 
-module _ (days : ℕ) (r : Record) (s : Spans) (e : s ≡ spansOf r) (body : List ℕ) where
+module _ (form : Form) (r : Record) (s : Spans) (e : s ≡ spansOf r) (body : List ℕ) where
   -- LAYOUT
-  pub laid-vector : (ended : Bool) → ended ≡ true → s .1 ≡ 0 → fits body (replicate days 109) ≡ laid (lineOf body ended) (recordFields days r)
-  laid-vector ended t z = rw (t, is-vector days r s e z, vector-picture)
+  pub laid-vector : (ended : Bool) → ended ≡ true → s .1 ≡ 0 → fits body (replicate (form .days) 109) ≡ laid (lineOf body ended) (recordFields form r)
+  laid-vector ended t z = rw (t, is-vector form r s e z, vector-picture)
 
   pub laid-fixed : (ended : Bool) → ended ≡ true → (s .1 ≡ 0 → ⊥)
-      → fits body (take (s .1 - s .0) (drop (s .0) pictures)) ≡ laid (lineOf body ended) (recordFields days r)
-  laid-fixed ended t z = rw (t, fixed-place days r s e z .pictured)
+      → fits body (take (s .1 - s .0) (drop (s .0) pictures)) ≡ laid (lineOf body ended) (recordFields form r)
+  laid-fixed ended t z = rw (t, fixed-place form r s e z .pictured)
 
   -- MARKS
-  module _ (f : fits body (picture (recordFields days r)) ≡ true) where
+  module _ (f : fits body (picture (recordFields form r)) ≡ true) where
     -- so it fits the vector's, if it is one
-    as-vector : s .1 ≡ 0 → fits body (picture (recordFields days FootnoteVector)) ≡ true
-    as-vector z = rw (is-vector days r s e z) at f
+    as-vector : s .1 ≡ 0 → fits body (picture (recordFields form FootnoteVector)) ≡ true
+    as-vector z = rw (is-vector form r s e z) at f
 
-    read-vector : s .1 ≡ 0 → all zeroOrOne body ≡ readable body (recordFields days r)
-    read-vector z = vector-readable days body (as-vector z) ∙ ap (readable body) (sym (is-vector days r s e z))
+    read-vector : s .1 ≡ 0 → all zeroOrOne body ≡ readable body (recordFields form r)
+    read-vector z = vector-readable form body (as-vector z) ∙ ap (readable body) (sym (is-vector form r s e z))
 
   -- LAYOUT BEFORE VALUE
   pub fixed-fit : (s .1 ≡ 0 → ⊥) → SpansFit s body
-  fixed-fit z = spans-fit days r s (fixed-place days r s e z) body
+  fixed-fit z = spans-fit form r s (fixed-place form r s e z) body
 
   pub order-fixed : (ended : Bool) → ended ≡ true → (s .1 ≡ 0 → ⊥)
-      → inOrder (fits body (pictureIn s)) (readableIn s body) ≡ inOrder (laid (lineOf body ended) (recordFields days r)) (readable body (recordFields days r))
+      → inOrder (fits body (pictureIn s)) (readableIn s body)
+      ≡ inOrder (laid (lineOf body ended) (recordFields form r)) (readable body (recordFields form r))
   order-fixed ended t z =
       ap (λ b. inOrder b (readableIn s body)) (laid-fixed ended t z)
-      ∙ ap (inOrder (laid (lineOf body ended) (recordFields days r))) (readable-in days r s (fixed-place days r s e z) body)
+      ∙ ap (inOrder (laid (lineOf body ended) (recordFields form r))) (readable-in form r s (fixed-place form r s e z) body)
 
   -- the marks of a vector say nothing where it does not fit, and need not
   pub order-vector : (ended : Bool) → ended ≡ true → s .1 ≡ 0
-      → inOrder (fits body (replicate days 109)) (all zeroOrOne body) ≡ inOrder (laid (lineOf body ended) (recordFields days r)) (readable body (recordFields days r))
-  order-vector ended t z = ap (λ b. inOrder b (all zeroOrOne body)) (laid-vector ended t z) ∙ go (laid (lineOf body ended) (recordFields days r)) refl
+      → inOrder (fits body (replicate (form .days) 109)) (all zeroOrOne body)
+      ≡ inOrder (laid (lineOf body ended) (recordFields form r)) (readable body (recordFields form r))
+  order-vector ended t z = ap (λ b. inOrder b (all zeroOrOne body)) (laid-vector ended t z) ∙ go (laid (lineOf body ended) (recordFields form r)) refl
     where
-      go : (b : Bool) → laid (lineOf body ended) (recordFields days r) ≡ b → inOrder b (all zeroOrOne body) ≡ inOrder b (readable body (recordFields days r))
+      go : (b : Bool) → laid (lineOf body ended) (recordFields form r) ≡ b
+          → inOrder b (all zeroOrOne body) ≡ inOrder b (readable body (recordFields form r))
       go true q = ap (inOrder true) (read-vector (and-right ended _ q) z)
       go false q = refl
 
   -- ROWS
-  module _ (room : ℕ) (p : Legible days r body room) where
-    pub marks-legible : s .1 ≡ 0 → (all zeroOrOne body ≡ true) × (13 < room)
+  module _ (room : ℕ) (p : Legible form r body room) where
+    pub marks-legible : s .1 ≡ 0 → (all zeroOrOne body ≡ true) × (vectorWidth < room)
     unfolding recordFields
     marks-legible z = (
       read-vector (p .fitting) z ∙ p .reading,
-      omega (arith, p .roomy, ap wordCount (is-vector days r s e z)),
+      omega (arith, p .roomy, ap wordCount (is-vector form r s e z)),
     )
 
-    pub marks-row : s .1 ≡ 0 → (n tag : ℕ) → padded room (tag ∷ vectorWords vectorWidth body) ≡ padded room (tag ∷ words n body (recordFields days r))
+    pub marks-row : s .1 ≡ 0 → (n tag : ℕ) → padded room (tag ∷ vectorWords vectorWidth body) ≡ padded room (tag ∷ words n body (recordFields form r))
     marks-row z n tag =
         ap (λ (ws : List ℕ). padded room (tag ∷ ws))
-        (sym (ap (words n body) (is-vector days r s e z) ∙ vector-words-in days body (as-vector (p .fitting) z) n))
+        (sym (ap (words n body) (is-vector form r s e z) ∙ vector-words-in form body (as-vector (p .fitting) z) n))
 
     pub fields-legible : (s .1 ≡ 0 → ⊥) → Entries (s .2) (s .3) body × (s .3 - s .2 < room)
     fields-legible z =
-        let q = fixed-place days r s e z in
-        (entries-in days r s q body (p .fitting), omega (arith, q .counted, p .roomy))
+        let q = fixed-place form r s e z in
+        (entries-in form r s q body (p .fitting), omega (arith, q .counted, p .roomy))
 
-    pub fields-row : (s .1 ≡ 0 → ⊥) → (n tag : ℕ) → padded room (tag ∷ words n body (slice (s .2) (s .3) fields)) ≡ padded room (tag ∷ words n body (recordFields days r))
-    fields-row z n tag = ap (λ (ws : List ℕ). padded room (tag ∷ ws)) (words-in days r s (fixed-place days r s e z) body n)
+    pub fields-row : (s .1 ≡ 0 → ⊥) → (n tag : ℕ)
+        → padded room (tag ∷ words n body (slice (s .2) (s .3) fields)) ≡ padded room (tag ∷ words n body (recordFields form r))
+    fields-row z n tag = ap (λ (ws : List ℕ). padded room (tag ∷ ws)) (words-in form r s (fixed-place form r s e z) body n)
 
 -- THE TESTS OF FIXED COLUMNS, in order
 module _ (s : Spans) (body : List ℕ) (l : Looks) (k : LooksBy body (pictureIn s) l) where
@@ -101,7 +106,8 @@ module _ (s : Spans) (body : List ℕ) (l : Looks) (k : LooksBy body (pictureIn 
     in-fields g h = rw (← k .fitting, f, ← k .figured, g, h)
 
 -- A LINE THAT HAS ITS LAYOUT fails by its values alone
-module _ (body : List ℕ) (fs : List Field) (f : fits body (picture fs) ≡ true) (t : Test) (e : t ≡ inOrder (laid (lineOf body true) fs) (readable body fs)) where
+module _ (body : List ℕ) (fs : List Field) (f : fits body (picture fs) ≡ true) (t : Test)
+    (e : t ≡ inOrder (laid (lineOf body true) fs) (readable body fs)) where
   by-value : t ≡ unless (readable body fs) Value
   by-value = e ∙ rw f
 
@@ -120,13 +126,13 @@ module _ (body : List ℕ) (fs : List Field) (f : fits body (picture fs) ≡ tru
       go false q = refl
 
 -- FOR CALLERS: a line that passes layout and value can be put
-pub layout-passes : (days : ℕ) (r : Record) (body : List ℕ) (ended : Bool)
-    → Passes ≡ orTest (unless (laid (lineOf body ended) (recordFields days r)) Layout) (unless (readable body (recordFields days r)) Value)
-    → (room : ℕ) → suc (wordCount (recordFields days r)) ≤ room → Legible days r body room
-layout-passes days r body ended q room h = go (laid (lineOf body ended) (recordFields days r)) (readable body (recordFields days r)) refl refl q
+pub layout-passes : (form : Form) (r : Record) (body : List ℕ) (ended : Bool)
+    → Passes ≡ layoutTest (lineOf body ended) (recordFields form r)
+    → (room : ℕ) → suc (wordCount (recordFields form r)) ≤ room → Legible form r body room
+layout-passes form r body ended q room h = go (laid (lineOf body ended) (recordFields form r)) (readable body (recordFields form r)) refl refl q
   where
-    go : (a b : Bool) → laid (lineOf body ended) (recordFields days r) ≡ a → readable body (recordFields days r) ≡ b
-        → Passes ≡ orTest (unless a Layout) (unless b Value) → Legible days r body room
+    go : (a b : Bool) → laid (lineOf body ended) (recordFields form r) ≡ a → readable body (recordFields form r) ≡ b
+        → Passes ≡ inOrder a b → Legible form r body room
     go true true x y q′ = record { fitting = and-right ended _ x; reading = y; roomy = h }
     go true false x y q′ = absurd (let z : _≡_ {A = ℕ} 0 1 = cc in omega arith)
     go false b x y q′ = absurd (let z : _≡_ {A = ℕ} 0 1 = cc in omega arith)

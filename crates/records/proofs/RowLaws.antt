@@ -1,12 +1,11 @@
 -- Laws of rows: words put one after the other into zeros. Assumes nothing.
-use Prim.Native.Nat.{ℕ, zero, suc, _+_, _-_, _*_, _≤_, _<_}
+use Prim.Native.Nat.{ℕ, zero, suc, _+_, _-_, _≤_, _<_}
 use mathlib.Core.Path.{_≡_, refl, ap, sym, _∙_}
 use mathlib.Core.List.{List, [], _∷_, _++_, append-nil, append-assoc}
-use mathlib.Core.Bool.{Bool, true, false, _&&_}
 use native.Mathlib.Omega.{arith}
 use native.Mathlib.Numerals.{add-one}
 use lib.ListN.{length, getD, take, drop, set, replicate, length-drop, take-append-drop, length-set, length-append, length-replicate}
-use lib.Seq.{take-suc, drop-cons, set-at, append-snoc, length-take-le}
+use lib.Seq.{take-suc, drop-cons, set-at, length-take-le}
 use Rattle.iff.specs.Columns.{Class, Letter, Number, StopNumber, NumberOrAny, Code, Marks, Text, Unread, Field, columns}
 use Rattle.iff.specs.Values.{words, fieldWords, vectorWords, wordsOf, wordCount}
 use Rattle.iff.specs.Tables.{padded}

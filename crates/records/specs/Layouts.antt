@@ -1,16 +1,18 @@
 -- The columns of all records one after the other, as the code's two tables hold them, and where each record's stand.
 use Prim.Native.Nat.{ℕ, _-_}
 use mathlib.Core.List.{List, [], _∷_, _++_}
-use mathlib.Core.Bool.{Bool, true, false, _&&_, _||_, not, cond}
+use mathlib.Core.Bool.{Bool, true, false, _&&_, _||_, not}
 use lib.Dec.{eqb}
 use lib.ListN.{getD, take, drop}
 use lib.Seq.{slice}
 use Rattle.iff.specs.Lists.{all, kept}
 use Rattle.iff.specs.Bytes.{digit}
-use Rattle.iff.specs.Lines.{Line}
-use Rattle.iff.specs.Columns.{Class, Letter, Number, StopNumber, NumberOrAny, Code, Marks, Text, Unread, Field, on, picture, recordFields, figures, columns}
-use Rattle.iff.specs.Values.{numberOf, codeOf, stopOf, companyOrAny, allBlank, isWildcard, fieldRight}
+use Rattle.iff.specs.Lines.{Line, letter}
+use Rattle.iff.specs.Columns.{Class, Letter, Number, StopNumber, NumberOrAny, Code, Marks, Text, Unread, Field, on, picture, form424, recordFields, fieldsOf, laid, fits, figures, columns}
+use Rattle.iff.specs.Values.{numberOf, codeOf, stopOf, companyOrAny, allBlank, isWildcard, fieldRight, readable}
 use Rattle.iff.specs.Refusals.{orTest, unless}
+use Rattle.iff.specs.declared.Form.{Form}
+use Rattle.iff.specs.declared.File.the-variants.{Timetbls}
 use Rattle.iff.specs.declared.Test.{Test}
 use Rattle.iff.specs.declared.Reason.the-variants.{Layout, Value}
 use Rattle.iff.specs.declared.Record.{Record}
@@ -26,7 +28,8 @@ fixed =
     FirstRecord ∷ CompanyRow ∷ CountryRow ∷ ModeRow ∷ ZoneHead ∷ ZonePeriod ∷ StationRow ∷ FootnoteHead ∷ ServiceHead ∷ TrainNumber
     ∷ Validity ∷ Transport ∷ Attribute ∷ PlainStop ∷ Interval ∷ Passed ∷ Platform ∷ ChangeHead ∷ ChangePair ∷ ChangeException ∷ []
 
--- a field that a row keeps a word of: neither the letter nor free text nor a column that is not read. Only such fields can be wrong, but for their columns.
+-- a field that a row keeps a word of: neither the letter nor free text nor a column that is not read. Only such fields can be wrong, but for
+-- their columns.
 abbrev pub leaves : Class → Bool
 leaves Letter = false
 leaves Number = true
@@ -48,11 +51,11 @@ module _ {A : Type 0} where
 
 -- the marks of all columns
 unfoldable pub pictures : List ℕ
-pictures = each (λ r. picture (recordFields 0 r)) fixed
+pictures = each (λ r. picture (recordFields (form424 0) r)) fixed
 
 -- all fields that leave a word
 unfoldable pub fields : List Field
-fields = each (λ r. leaving (recordFields 0 r)) fixed
+fields = each (λ r. leaving (recordFields (form424 0) r)) fixed
 
 -- beyond the last, an empty one
 abbrev pub noField : Field
@@ -122,3 +125,10 @@ readableIn s body = figures body (pictureIn s) && rightIn body (slice (s .2) (s 
 -- a line is laid, and then it is readable
 abbrev pub inOrder : Bool → Bool → Test
 inOrder laid readable = orTest (unless laid Layout) (unless readable Value)
+
+abbrev pub layoutTest : Line → List Field → Test
+layoutTest l fs = inOrder (laid l fs) (readable (l .body) fs)
+
+-- a line of a block that passed both: the record `Legible`, as a test
+unfoldable pub legible : Form → Line → Bool
+legible form l = fits (l .body) (picture (fieldsOf form Timetbls (letter l))) && readable (l .body) (fieldsOf form Timetbls (letter l))

@@ -4,18 +4,17 @@
 ghost use mathlib.Core.Path.{_≡_};
 ghost use mathlib.Core.Bool.{true, false, _||_};
 ghost use mathlib.Core.List.{[], _∷_};
-ghost use Prim.Native.Nat.{_+_, _-_, _*_, _≤_, _<_};
+ghost use Prim.Native.Nat.{suc, _+_, _-_, _*_, _≤_, _<_};
 ghost use lib.ListN.{length, take, drop, replicate};
 ghost use lib.Seq.{slice};
-ghost use Rattle.iff.specs.Bytes.{digit, zeroOrOne};
+ghost use Rattle.iff.specs.Bytes.{hash, digit, zeroOrOne};
 ghost use Rattle.iff.specs.Lists.{all};
-ghost use Rattle.iff.specs.Refusals.{orTest, unless};
-ghost use Rattle.iff.specs.Columns.{recordFields, recordOf, blockRecord, picture, fits, laid, columns};
-ghost use Rattle.iff.specs.Values.{readable, words, fieldRight, fieldWords, isWildcard, stopOf, bits, vectorWords, vectorWidth};
+ghost use Rattle.iff.specs.Columns.{on, recordFields, rowRecord, groupRecord, blockRecord, picture, fits, laid, columns};
+ghost use Rattle.iff.specs.Values.{readable, words, wordCount, fieldRight, fieldWords, isWildcard, stopOf, bits, vectorWords, vectorWidth};
 ghost use Rattle.iff.specs.Tables.{padded};
-ghost use Rattle.iff.specs.declared.Reason.the-variants.{Layout, Value};
-ghost use Rattle.records.specs.Layouts.{lineOf, pictures, fields, fieldAt, spansOf, wordBy, rightBy, rightIn, pictureIn, readableIn, inOrder};
-ghost use Rattle.records.specs.Facts.{Legible, EntryOf, LooksBy, Sound, Entries, SpansFit};
+ghost use Rattle.records.specs.Layouts.{lineOf, pictures, fields, fieldAt, spansOf, wordBy, rightBy, rightIn, pictureIn, readableIn};
+ghost use Rattle.records.specs.Layouts.{inOrder, layoutTest};
+ghost use Rattle.records.specs.Facts.{Legible, LineRead, EntryOf, LooksBy, Inside, Entries, SpansFit};
 
 // The columns of every record but the vector, a mark for each: `l` the letter, `n` a number, `a` a company or the wildcard, `c` a code, `t` text,
 // `u` a column that is not read, and a comma for a gap.
@@ -156,10 +155,52 @@ fn entry_at(j: usize) -> Entry
     }
 }
 
-// Records by letter.
+// Records: by file, and by the letter of a line after the first.
+
+pub fn row_record(file: iff::RowFile) -> iff::Record
+    ensures { λ r. ⌜ r ≡ rowRecord file ⌝ }
+{
+    match file {
+        iff::RowFile::Company => iff::Record::CompanyRow,
+        iff::RowFile::Country => iff::Record::CountryRow,
+        iff::RowFile::Trnsmode => iff::Record::ModeRow,
+        iff::RowFile::Stations => iff::Record::StationRow,
+    }
+}
+
+// A group's `#`, or what follows it.
+fn headed(letter: u8, head: iff::Record, other: iff::Record) -> iff::Record
+    ensures { λ r. ⌜ r ≡ on letter hash head other ⌝ }
+{
+    if letter == b'#' { head } else { other }
+}
+
+pub fn group_record(file: iff::GroupFile, letter: u8) -> iff::Record
+    ensures { λ r. ⌜ r ≡ groupRecord file letter ⌝ }
+{
+    match file {
+        iff::GroupFile::Timezone => headed(letter, iff::Record::ZoneHead, iff::Record::ZonePeriod),
+        iff::GroupFile::Footnote => headed(
+            letter,
+            iff::Record::FootnoteHead,
+            iff::Record::FootnoteVector,
+        ),
+        iff::GroupFile::Changes => headed(letter, iff::Record::ChangeHead, iff::Record::ChangePair),
+        iff::GroupFile::Xfootnote => headed(
+            letter,
+            iff::Record::FootnoteHead,
+            iff::Record::FootnoteVector,
+        ),
+        iff::GroupFile::Xchanges => headed(
+            letter,
+            iff::Record::ChangeHead,
+            iff::Record::ChangeException,
+        ),
+    }
+}
 
 // A record of a TIMETBLS block; what has no letter of its own is a stop.
-fn block_record(letter: u8) -> iff::Record
+pub fn block_record(letter: u8) -> iff::Record
     ensures { λ r. ⌜ r ≡ blockRecord letter ⌝ }
 {
     match letter {
@@ -172,46 +213,6 @@ fn block_record(letter: u8) -> iff::Record
         b';' => iff::Record::Passed,
         b'?' => iff::Record::Platform,
         _ => iff::Record::PlainStop,
-    }
-}
-
-// The record of a line after the first, by its first byte.
-pub fn record_of(file: iff::File, letter: u8) -> iff::Record
-    ensures { λ r. ⌜ r ≡ recordOf file letter ⌝ }
-{
-    let head = letter == b'#';
-    match file {
-        iff::File::Delivery => iff::Record::FirstRecord,
-        iff::File::Company => iff::Record::CompanyRow,
-        iff::File::Country => iff::Record::CountryRow,
-        iff::File::Trnsmode => iff::Record::ModeRow,
-        iff::File::Timezone => if head {
-            iff::Record::ZoneHead
-        } else {
-            iff::Record::ZonePeriod
-        },
-        iff::File::Stations => iff::Record::StationRow,
-        iff::File::Footnote => if head {
-            iff::Record::FootnoteHead
-        } else {
-            iff::Record::FootnoteVector
-        },
-        iff::File::Timetbls => block_record(letter),
-        iff::File::Changes => if head {
-            iff::Record::ChangeHead
-        } else {
-            iff::Record::ChangePair
-        },
-        iff::File::Xfootnote => if head {
-            iff::Record::FootnoteHead
-        } else {
-            iff::Record::FootnoteVector
-        },
-        iff::File::Xchanges => if head {
-            iff::Record::ChangeHead
-        } else {
-            iff::Record::ChangeException
-        },
     }
 }
 
@@ -253,8 +254,8 @@ fn fits_days(line: &[u8], days: usize) -> bool
 }
 
 // A record's length, its commas, allowed bytes, and CR LF.
-pub fn is_laid(record: iff::Record, days: usize, line: &[u8], ended: bool) -> bool
-    ensures { λ r. ⌜ r ≡ laid (lineOf (now (line .entry)) ended) (recordFields days «record») ⌝ }
+pub fn is_laid(record: iff::Record, form: iff::Form, line: &[u8], ended: bool) -> bool
+    ensures { λ r. ⌜ r ≡ laid (lineOf (now (line .entry)) ended) (recordFields form «record») ⌝ }
 {
     if !ended {
         return false;
@@ -262,7 +263,7 @@ pub fn is_laid(record: iff::Record, days: usize, line: &[u8], ended: bool) -> bo
     let s = spans_of(record);
     let to = s.1;
     if to == 0 {
-        return fits_days(line, days);
+        return fits_days(line, form.days);
     }
     let from = s.0;
     let looks = looks_in(line, from, to);
@@ -307,7 +308,7 @@ fn is_right(class: u8, field: &[u8]) -> bool
 }
 
 fn is_field_right(line: &[u8], j: usize) -> bool
-    requires { ⌜ Sound (length (now line)) (fieldAt j) ⌝ }
+    requires { ⌜ Inside (length (now line)) (fieldAt j) ⌝ }
     ensures { λ r. ⌜ r ≡ fieldRight (fieldAt j .class) (columns (now (line .entry)) (fieldAt j)) ⌝ }
 {
     let e = entry_at(j);
@@ -368,8 +369,8 @@ fn fixed_layout(line: &[u8], s: Spans) -> iff::Test
 }
 
 // Those of any record.
-pub fn line_layout(record: iff::Record, days: usize, line: &[u8], ended: bool) -> iff::Test
-    ensures { λ r. ⌜ r ≡ orTest (unless (laid (lineOf (now (line .entry)) ended) (recordFields days «record»)) Layout) (unless (readable (now (line .entry)) (recordFields days «record»)) Value) ⌝ }
+pub fn line_layout(record: iff::Record, form: iff::Form, line: &[u8], ended: bool) -> iff::Test
+    ensures { λ r. ⌜ r ≡ layoutTest (lineOf (now (line .entry)) ended) (recordFields form «record») ⌝ }
 {
     if !ended {
         return iff::Test::Fails(iff::Reason::Layout);
@@ -377,17 +378,17 @@ pub fn line_layout(record: iff::Record, days: usize, line: &[u8], ended: bool) -
     let s = spans_of(record);
     let to = s.1;
     if to == 0 {
-        return vector_layout(line, days);
+        return vector_layout(line, form.days);
     }
     fixed_layout(line, s)
 }
 
 // Digits where numbers are due, marks where a vector's are, codes that are not all blank: asked by itself of a line that has its layout.
-pub fn is_readable(record: iff::Record, days: usize, line: &[u8]) -> bool
-    requires { ⌜ fits (now line) (picture (recordFields days «record»)) ≡ true ⌝ }
-    ensures { λ r. ⌜ r ≡ readable (now (line .entry)) (recordFields days «record») ⌝ }
+pub fn is_readable(record: iff::Record, form: iff::Form, line: &[u8]) -> bool
+    requires { ⌜ fits (now line) (picture (recordFields form «record»)) ≡ true ⌝ }
+    ensures { λ r. ⌜ r ≡ readable (now (line .entry)) (recordFields form «record») ⌝ }
 {
-    match line_layout(record, days, line, true) {
+    match line_layout(record, form, line, true) {
         iff::Test::Passes => true,
         iff::Test::Fails(_) => false,
     }
@@ -419,7 +420,7 @@ fn word_of(class: u8, n: u64, field: &[u8]) -> u64
 }
 
 fn field_word(n: u64, line: &[u8], j: usize) -> u64
-    requires { ⌜ Sound (length (now line)) (fieldAt j) ⌝ }
+    requires { ⌜ Inside (length (now line)) (fieldAt j) ⌝ }
     ensures { λ r. ⌜ fieldWords n (fieldAt j .class) (columns (now (line .entry)) (fieldAt j)) ≡ r ∷ [] ⌝ }
 {
     let e = entry_at(j);
@@ -445,7 +446,7 @@ fn put_fields(tag: u64, n: u64, line: &[u8], first: usize, end: usize, out: &mut
 
 // 64 marks, from the `k`th 64 on; none where the vector has ended.
 fn marks_at(line: &[u8], k: usize) -> u64
-    requires { ⌜ (k < 13) × (all zeroOrOne (now line) ≡ true) ⌝ }
+    requires { ⌜ (k < vectorWidth) × (all zeroOrOne (now line) ≡ true) ⌝ }
     ensures { λ r. ⌜ r ≡ bits 64 (drop (k * 64) (now (line .entry))) ⌝ }
 {
     let at = k * 64;
@@ -456,13 +457,13 @@ fn marks_at(line: &[u8], k: usize) -> u64
 }
 
 fn put_marks(tag: u64, line: &[u8], out: &mut [u64])
-    requires { ⌜ (all zeroOrOne (now line) ≡ true) × (13 < length (now out)) ⌝ }
+    requires { ⌜ (all zeroOrOne (now line) ≡ true) × (vectorWidth < length (now out)) ⌝ }
     ensures { λ _. ⌜ now (out .exit) ≡ padded (length (now (out .entry))) (tag ∷ vectorWords vectorWidth (now (line .entry))) ⌝ }
 {
     tables::clear(out);
     out[0] = tag;
     let mut i: usize = 0;
-    while i < 13 {
+    while i < iff::limits::MARK_WORDS {
         let k = i + 1;
         out[k] = marks_at(line, i);
         i = k;
@@ -470,9 +471,16 @@ fn put_marks(tag: u64, line: &[u8], out: &mut [u64])
 }
 
 // The row of a line that passed its layout and values, in a block of `n` stops: the tag, the words of its fields, and zeros.
-pub fn put_words(record: iff::Record, tag: u64, days: usize, n: u64, line: &[u8], out: &mut [u64])
-    requires { ⌜ Legible days «record» (now line) (length (now out)) ⌝ }
-    ensures { λ _. ⌜ now (out .exit) ≡ padded (length (now (out .entry))) (tag ∷ words n (now (line .entry)) (recordFields days «record»)) ⌝ }
+pub fn put_words(
+    record: iff::Record,
+    tag: u64,
+    form: iff::Form,
+    n: u64,
+    line: &[u8],
+    out: &mut [u64],
+)
+    requires { ⌜ Legible form «record» (now line) (length (now out)) ⌝ }
+    ensures { λ _. ⌜ now (out .exit) ≡ padded (length (now (out .entry))) (tag ∷ words n (now (line .entry)) (recordFields form «record»)) ⌝ }
 {
     let s = spans_of(record);
     let to = s.1;
@@ -483,4 +491,25 @@ pub fn put_words(record: iff::Record, tag: u64, days: usize, n: u64, line: &[u8]
     let first = s.2;
     let end = s.3;
     put_fields(tag, n, line, first, end, out);
+}
+
+// A line's layout and values, and its row where both are right.
+pub fn read_line(
+    kind: iff::Record,
+    tag: u64,
+    form: iff::Form,
+    line: &[u8],
+    ended: bool,
+    row: &mut [u64],
+) -> iff::Test
+    requires { ⌜ suc (wordCount (recordFields form kind)) ≤ length (now row) ⌝ }
+    ensures { λ r. ⌜ LineRead form kind tag (lineOf (now (line .entry)) ended) (now (row .entry)) (now (row .exit)) r ⌝ }
+{
+    match line_layout(kind, form, line, ended) {
+        iff::Test::Fails(r) => iff::Test::Fails(r),
+        iff::Test::Passes => {
+            put_words(kind, tag, form, 0, line, row);
+            iff::Test::Passes
+        }
+    }
 }

@@ -1,28 +1,29 @@
 // What a row names in other files is there: document 01's References.
+use iff::File;
+use iff::GroupFile;
+use iff::Place;
+use iff::Reason;
+use iff::RowFile;
+use iff::Verdict;
+use iff::tags;
+use iff::words;
 ghost use mathlib.Core.Path.{_≡_};
 ghost use mathlib.Core.Bool.{true, _&&_, _||_};
 ghost use Prim.Native.Nat.{_≤_};
 ghost use lib.Dec.{eqb};
 ghost use lib.ListN.{length};
 ghost use Rattle.iff.specs.Lists.{has};
+ghost use Rattle.iff.specs.Refusals.{orElse};
 ghost use Rattle.iff.specs.Tables.{rowWidth};
-ghost use Rattle.iff.specs.declared.File.the-variants.{Company, Trnsmode, Stations, Timetbls, Changes, Xchanges};
+ghost use Rattle.iff.specs.declared.RowFile.the-variants.{Company, Trnsmode, Stations};
+ghost use Rattle.iff.specs.declared.GroupFile.the-variants.{Changes, Xchanges};
+ghost use Rattle.iff.specs.declared.File.the-variants.{Rows, Groups, Timetbls};
 ghost use Rattle.iff_rules.specs.Rows.{Context};
-ghost use Rattle.iff_rules.specs.References.{anyCompany, anyMode, metInBlock, met};
+ghost use Rattle.iff_rules.specs.References.{anyCompany, anyMode, metByRow, metInBlock, metInGroup};
 ghost use Rattle.keys.specs.Lookup.{keysAmong};
-ghost use Rattle.references.specs.Agree.{BlockKeys, BlockKeysAmong, StationKeys, ChangeKeysAmong, ExceptionKeysAmong, GroupKeys, GroupKeysAmong, isPlainFile, isGroupFile, metSide, metSides};
-
-const HASH: u64 = 35;
-
-const PERCENT: u64 = 37;
-
-const AMPERSAND: u64 = 38;
-
-const ASTERISK: u64 = 42;
-
-const DASH: u64 = 45;
-
-const QUESTION: u64 = 63;
+ghost use Rattle.references.specs.Agree.{BlockKeys, BlockKeysAmong, StationKeys, GroupKeys, GroupKeysAmong};
+ghost use Rattle.references.specs.Agree.{ChangeKeysAmong, ExceptionKeysAmong, metSide, metSides};
+ghost use Rattle.references.specs.Company.{companyNamed};
 
 // `*` and blanks, packed as a company's three bytes and as a mode's four.
 const ANY_COMPANY: u64 = 2760736;
@@ -55,13 +56,15 @@ pub fn count_for_blocks(
     stations: &[u64],
     footnotes: &[u64],
 ) -> BlockCounts
-    ensures { λ r. ⌜ ((c : Context) → BlockKeys c (now (companies .entry)) (now (modes .entry)) (now (stations .entry)) (now (footnotes .entry)) → BlockKeysAmong c r (now (companies .entry)) (now (modes .entry)) (now (stations .entry)) (now (footnotes .entry))) ⌝ }
+    ensures { λ r. ⌜ ((c : Context)
+        → BlockKeys c (now (companies .entry)) (now (modes .entry)) (now (stations .entry)) (now (footnotes .entry))
+        → BlockKeysAmong c r (now (companies .entry)) (now (modes .entry)) (now (stations .entry)) (now (footnotes .entry))) ⌝ }
 {
     BlockCounts {
-        companies: keys::used_rows(iff::File::Company, companies),
-        modes: keys::used_rows(iff::File::Trnsmode, modes),
-        stations: keys::used_rows(iff::File::Stations, stations),
-        footnotes: keys::used_rows(iff::File::Footnote, footnotes),
+        companies: keys::used_rows(File::Rows(RowFile::Company), companies),
+        modes: keys::used_rows(File::Rows(RowFile::Trnsmode), modes),
+        stations: keys::used_rows(File::Rows(RowFile::Stations), stations),
+        footnotes: keys::used_rows(File::Groups(GroupFile::Footnote), footnotes),
     }
 }
 
@@ -73,14 +76,17 @@ pub fn count_for_groups(
     services: &[u64],
     xfootnotes: &[u64],
 ) -> GroupCounts
-    ensures { λ r. ⌜ ((c : Context) → GroupKeys c (now (companies .entry)) (now (modes .entry)) (now (stations .entry)) (now (services .entry)) (now (xfootnotes .entry)) → GroupKeysAmong c r (now (companies .entry)) (now (modes .entry)) (now (stations .entry)) (now (services .entry)) (now (xfootnotes .entry))) ⌝ }
+    ensures { λ r. ⌜ ((c : Context)
+        → GroupKeys c (now (companies .entry)) (now (modes .entry)) (now (stations .entry)) (now (services .entry)) (now (xfootnotes .entry))
+        → GroupKeysAmong c r (now (companies .entry)) (now (modes .entry)) (now (stations .entry)) (now (services .entry))
+        (now (xfootnotes .entry))) ⌝ }
 {
     GroupCounts {
-        companies: keys::used_rows(iff::File::Company, companies),
-        modes: keys::used_rows(iff::File::Trnsmode, modes),
-        stations: keys::used_rows(iff::File::Stations, stations),
-        services: keys::used_rows(iff::File::Timetbls, services),
-        xfootnotes: keys::used_rows(iff::File::Xfootnote, xfootnotes),
+        companies: keys::used_rows(File::Rows(RowFile::Company), companies),
+        modes: keys::used_rows(File::Rows(RowFile::Trnsmode), modes),
+        stations: keys::used_rows(File::Rows(RowFile::Stations), stations),
+        services: keys::used_rows(File::Timetbls, services),
+        xfootnotes: keys::used_rows(File::Groups(GroupFile::Xfootnote), xfootnotes),
     }
 }
 
@@ -98,57 +104,78 @@ pub fn met_in_block(
     places: &[u32],
 ) -> bool
     requires { ⌜ 5 ≤ length (now row) ⌝ }
-    ensures { λ r. ⌜ ((c : Context) → BlockKeysAmong c counts (now (companies .entry)) (now (modes .entry)) (now (stations .entry)) (now (footnotes .entry)) → r ≡ metInBlock c (now (row .entry))) ⌝ }
+    ensures { λ r. ⌜ ((c : Context)
+        → BlockKeysAmong c counts (now (companies .entry)) (now (modes .entry)) (now (stations .entry)) (now (footnotes .entry))
+        → r ≡ metInBlock c (now (row .entry))) ⌝ }
 {
-    let tag = row[0];
-    let name = row[1];
-    let footnote = row[4];
-    if tag == HASH {
+    let tag = row[words::TAG];
+    let name = row[words::NAMED];
+    let footnote = row[words::ATTRIBUTE_FOOTNOTE];
+    if tag == tags::HASH {
         return true;
     }
-    if tag == PERCENT {
-        return keys::names_among(iff::File::Company, companies, counts.companies, name);
+    if tag == tags::PERCENT {
+        return keys::names_among(
+            File::Rows(RowFile::Company),
+            companies,
+            counts.companies,
+            name,
+        );
     }
-    if tag == DASH {
+    if tag == tags::DASH {
         return keys::names_at(
-            iff::File::Footnote,
+            File::Groups(GroupFile::Footnote),
             footnotes,
             counts.footnotes,
             places,
             name,
         );
     }
-    if tag == AMPERSAND {
-        return keys::names_among(iff::File::Trnsmode, modes, counts.modes, name);
+    if tag == tags::AMPERSAND {
+        return keys::names_among(File::Rows(RowFile::Trnsmode), modes, counts.modes, name);
     }
-    if tag == ASTERISK {
+    if tag == tags::ASTERISK {
         return keys::names_at(
-            iff::File::Footnote,
+            File::Groups(GroupFile::Footnote),
             footnotes,
             counts.footnotes,
             places,
             footnote,
         );
     }
-    if tag == QUESTION {
+    if tag == tags::QUESTION {
         return keys::names_at(
-            iff::File::Footnote,
+            File::Groups(GroupFile::Footnote),
             footnotes,
             counts.footnotes,
             places,
             name,
         );
     }
-    keys::names_at(iff::File::Stations, stations, counts.stations, places, name)
+    keys::names_at(
+        File::Rows(RowFile::Stations),
+        stations,
+        counts.stations,
+        places,
+        name,
+    )
 }
 
 // A station's country and zone are there.
-pub fn met_station(row: &[u64], countries: &[u64], zones: &[u64]) -> bool
-    requires { ⌜ length (now row) ≡ rowWidth Stations ⌝ }
-    ensures { λ r. ⌜ ((c : Context) → StationKeys c (now (countries .entry)) (now (zones .entry)) → r ≡ met c Stations (now (row .entry))) ⌝ }
+fn met_station(row: &[u64], countries: &[u64], zones: &[u64]) -> bool
+    requires { ⌜ length (now row) ≡ rowWidth (Rows Stations) ⌝ }
+    ensures { λ r. ⌜ ((c : Context) → StationKeys c (now (countries .entry)) (now (zones .entry)) → r ≡ metByRow c Stations (now (row .entry))) ⌝ }
 {
-    if keys::names(iff::File::Country, countries, row[4]) {
-        return keys::names(iff::File::Timezone, zones, row[5]);
+    if keys::names(
+        File::Rows(RowFile::Country),
+        countries,
+        row[words::STATION_COUNTRY],
+    ) {
+        return keys::names(
+            File::Groups(GroupFile::Timezone),
+            zones,
+            row[words::STATION_ZONE],
+        );
     }
     false
 }
@@ -164,40 +191,53 @@ fn met_pair(from: u64, to: u64, used: usize, services: &[u64], places: &[u32]) -
 }
 
 // The station of a group of CHANGES is there, and the services of a pair.
-pub fn met_change(
+fn met_change(
     row: &[u64],
     counts: GroupCounts,
     stations: &[u64],
     services: &[u64],
     places: &[u32],
 ) -> bool
-    requires { ⌜ length (now row) ≡ rowWidth Changes ⌝ }
-    ensures { λ r. ⌜ ((c : Context) → ChangeKeysAmong c counts (now (stations .entry)) (now (services .entry)) → r ≡ met c Changes (now (row .entry))) ⌝ }
+    requires { ⌜ length (now row) ≡ rowWidth (Groups Changes) ⌝ }
+    ensures { λ r. ⌜ ((c : Context)
+        → ChangeKeysAmong c counts (now (stations .entry)) (now (services .entry))
+        → r ≡ metInGroup c Changes (now (row .entry))) ⌝ }
 {
-    if row[0] == HASH {
-        return keys::names_among(iff::File::Stations, stations, counts.stations, row[1]);
+    if row[words::TAG] == tags::HASH {
+        return keys::names_among(
+            File::Rows(RowFile::Stations),
+            stations,
+            counts.stations,
+            row[words::NAMED],
+        );
     }
-    met_pair(row[1], row[2], counts.services, services, places)
+    met_pair(
+        row[words::FROM_SERVICE],
+        row[words::TO_SERVICE],
+        counts.services,
+        services,
+        places,
+    )
 }
 
 // A company that an exception names; the wildcard is in no table.
 fn met_company(company: u64, used: usize, companies: &[u64]) -> bool
-    ensures { λ r. ⌜ r ≡ (eqb company anyCompany || has company (keysAmong Company used (now (companies .entry)))) ⌝ }
+    ensures { λ r. ⌜ r ≡ (eqb company anyCompany || has company (keysAmong (Rows Company) used (now (companies .entry)))) ⌝ }
 {
     if company == ANY_COMPANY {
         return true;
     }
-    keys::names_among(iff::File::Company, companies, used, company)
+    keys::names_among(File::Rows(RowFile::Company), companies, used, company)
 }
 
 // A mode that an exception names, likewise.
 fn met_mode(mode: u64, used: usize, modes: &[u64]) -> bool
-    ensures { λ r. ⌜ r ≡ (eqb mode anyMode || has mode (keysAmong Trnsmode used (now (modes .entry)))) ⌝ }
+    ensures { λ r. ⌜ r ≡ (eqb mode anyMode || has mode (keysAmong (Rows Trnsmode) used (now (modes .entry)))) ⌝ }
 {
     if mode == ANY_MODE {
         return true;
     }
-    keys::names_among(iff::File::Trnsmode, modes, used, mode)
+    keys::names_among(File::Rows(RowFile::Trnsmode), modes, used, mode)
 }
 
 // One side of an exception: the service changed from, or the one changed to.
@@ -218,12 +258,29 @@ fn met_sides(
     modes: &[u64],
     xfootnotes: &[u64],
 ) -> bool
-    requires { ⌜ length (now row) ≡ rowWidth Xchanges ⌝ }
+    requires { ⌜ length (now row) ≡ rowWidth (Groups Xchanges) ⌝ }
     ensures { λ r. ⌜ r ≡ metSides counts (now (companies .entry)) (now (modes .entry)) (now (xfootnotes .entry)) (now (row .entry)) ⌝ }
 {
-    if met_side(row[1], row[2], counts, companies, modes) {
-        if met_side(row[3], row[4], counts, companies, modes) {
-            return keys::names_among(iff::File::Xfootnote, xfootnotes, counts.xfootnotes, row[6]);
+    if met_side(
+        row[words::FROM_COMPANY],
+        row[words::FROM_MODE],
+        counts,
+        companies,
+        modes,
+    ) {
+        if met_side(
+            row[words::TO_COMPANY],
+            row[words::TO_MODE],
+            counts,
+            companies,
+            modes,
+        ) {
+            return keys::names_among(
+                File::Groups(GroupFile::Xfootnote),
+                xfootnotes,
+                counts.xfootnotes,
+                row[words::EXCEPTION_FOOTNOTE],
+            );
         }
         return false;
     }
@@ -231,7 +288,7 @@ fn met_sides(
 }
 
 // The station of a group of XCHANGES is there, and what an exception names.
-pub fn met_exception(
+fn met_exception(
     row: &[u64],
     counts: GroupCounts,
     companies: &[u64],
@@ -239,38 +296,39 @@ pub fn met_exception(
     stations: &[u64],
     xfootnotes: &[u64],
 ) -> bool
-    requires { ⌜ length (now row) ≡ rowWidth Xchanges ⌝ }
-    ensures { λ r. ⌜ ((c : Context) → ExceptionKeysAmong c counts (now (companies .entry)) (now (modes .entry)) (now (stations .entry)) (now (xfootnotes .entry)) → r ≡ met c Xchanges (now (row .entry))) ⌝ }
+    requires { ⌜ length (now row) ≡ rowWidth (Groups Xchanges) ⌝ }
+    ensures { λ r. ⌜ ((c : Context)
+        → ExceptionKeysAmong c counts (now (companies .entry)) (now (modes .entry)) (now (stations .entry)) (now (xfootnotes .entry))
+        → r ≡ metInGroup c Xchanges (now (row .entry))) ⌝ }
 {
-    if row[0] == HASH {
-        return keys::names_among(iff::File::Stations, stations, counts.stations, row[1]);
+    if row[words::TAG] == tags::HASH {
+        return keys::names_among(
+            File::Rows(RowFile::Stations),
+            stations,
+            counts.stations,
+            row[words::NAMED],
+        );
     }
     met_sides(row, counts, companies, modes, xfootnotes)
 }
 
-// What a row of a file without record letters names is there. Only STATIONS names anything.
-pub fn met_plain(file: iff::File, row: &[u64], countries: &[u64], zones: &[u64]) -> bool
-    requires { ⌜ (isPlainFile file ≡ true) × (length (now row) ≡ rowWidth file) ⌝ }
-    ensures { λ r. ⌜ ((c : Context) → StationKeys c (now (countries .entry)) (now (zones .entry)) → r ≡ met c file (now (row .entry))) ⌝ }
+// What a row of a file of rows names is there. Only STATIONS names anything.
+pub fn met_by_row(file: RowFile, row: &[u64], countries: &[u64], zones: &[u64]) -> bool
+    requires { ⌜ length (now row) ≡ rowWidth (Rows file) ⌝ }
+    ensures { λ r. ⌜ ((c : Context) → StationKeys c (now (countries .entry)) (now (zones .entry))
+        → r ≡ metByRow c file (now (row .entry))) ⌝ }
 {
     match file {
-        iff::File::Stations => met_station(row, countries, zones),
-        iff::File::Delivery => true,
-        iff::File::Company => true,
-        iff::File::Country => true,
-        iff::File::Trnsmode => true,
-        iff::File::Timezone => true,
-        iff::File::Footnote => true,
-        iff::File::Timetbls => true,
-        iff::File::Changes => true,
-        iff::File::Xfootnote => true,
-        iff::File::Xchanges => true,
+        RowFile::Company => true,
+        RowFile::Country => true,
+        RowFile::Trnsmode => true,
+        RowFile::Stations => met_station(row, countries, zones),
     }
 }
 
 // What a row of a file of groups names is there. Zones and footnotes name nothing.
-pub fn met_group(
-    file: iff::File,
+pub fn met_in_group(
+    file: GroupFile,
     row: &[u64],
     counts: GroupCounts,
     companies: &[u64],
@@ -280,20 +338,33 @@ pub fn met_group(
     places: &[u32],
     xfootnotes: &[u64],
 ) -> bool
-    requires { ⌜ (isGroupFile file ≡ true) × (length (now row) ≡ rowWidth file) ⌝ }
-    ensures { λ r. ⌜ ((c : Context) → GroupKeysAmong c counts (now (companies .entry)) (now (modes .entry)) (now (stations .entry)) (now (services .entry)) (now (xfootnotes .entry)) → r ≡ met c file (now (row .entry))) ⌝ }
+    requires { ⌜ length (now row) ≡ rowWidth (Groups file) ⌝ }
+    ensures { λ r. ⌜ ((c : Context)
+        → GroupKeysAmong c counts (now (companies .entry)) (now (modes .entry)) (now (stations .entry)) (now (services .entry))
+        (now (xfootnotes .entry))
+        → r ≡ metInGroup c file (now (row .entry))) ⌝ }
 {
     match file {
-        iff::File::Changes => met_change(row, counts, stations, services, places),
-        iff::File::Xchanges => met_exception(row, counts, companies, modes, stations, xfootnotes),
-        iff::File::Delivery => true,
-        iff::File::Company => true,
-        iff::File::Country => true,
-        iff::File::Trnsmode => true,
-        iff::File::Timezone => true,
-        iff::File::Stations => true,
-        iff::File::Footnote => true,
-        iff::File::Timetbls => true,
-        iff::File::Xfootnote => true,
+        GroupFile::Timezone => true,
+        GroupFile::Footnote => true,
+        GroupFile::Changes => met_change(row, counts, stations, services, places),
+        GroupFile::Xfootnote => true,
+        GroupFile::Xchanges => met_exception(row, counts, companies, modes, stations, xfootnotes),
+    }
+}
+
+// 9: DELIVERY's company is not in COMPANY.
+pub fn company_test(v: Verdict, delivery: &[u64], companies: &[u64]) -> Verdict
+    ensures { λ r. ⌜ r ≡ orElse v (companyNamed (now (delivery .entry)) (now (companies .entry))) ⌝ }
+{
+    match v {
+        Verdict::Fault(_, _) => v,
+        Verdict::Fine => {
+            let own = tables::word_or_zero(delivery, words::OWN_COMPANY);
+            if keys::names(File::Rows(RowFile::Company), companies, own) {
+                return Verdict::Fine;
+            }
+            Verdict::Fault(Reason::Reference, Place::At(File::Delivery, 0, 1))
+        }
     }
 }

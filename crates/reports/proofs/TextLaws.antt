@@ -9,11 +9,7 @@ use borrow.Author.Tests.{lt-ltb, le-ltb}
 use lib.Dec.{ltb}
 use lib.ListN.{length, getD, take, drop, set, length-set}
 use lib.Seq.{take-all, take-suc, take-nil, length-take-le}
-use Rattle.iff.specs.declared.File.{File}
-use Rattle.iff.specs.declared.File.the-variants.{Delivery, Company, Country, Trnsmode, Timezone, Stations, Footnote, Timetbls, Changes, Xfootnote, Xchanges}
-use Rattle.iff.specs.Bytes.{bytes}
 use Rattle.reports.specs.Texts.{Appended, Front, lastDigit, digits}
-use Rattle.reports.specs.Report.{fileName, nameSize, nameBytes}
 
 -- what is cut off does not come back
 cut-front : (n : ℕ) (a b : List ℕ) → take n (take n a ++ b) ≡ take n (a ++ b)
@@ -72,45 +68,16 @@ pub record Putting (was : List ℕ) (at : ℕ) (text : List ℕ) (n : ℕ) (is :
 pub put-none : (was text : List ℕ) (at n : ℕ) → Putting was at text n was at 0
 put-none was text at n = record { so-far = none-put was at; inside = omega arith }
 
-pub put-next : (was text : List ℕ) (at n : ℕ) (is next : List ℕ) (to then-to i b : ℕ) → Putting was at text n is to i → n ≡ length text → i < n → b ≡ getD text i 0 → Appended is to (b ∷ []) next then-to → Putting was at text n next then-to (i + 1)
+pub put-next : (was text : List ℕ) (at n : ℕ) (is next : List ℕ) (to then-to i b : ℕ) →
+    Putting was at text n is to i → n ≡ length text → i < n → b ≡ getD text i 0 → Appended is to (b ∷ []) next then-to →
+    Putting was at text n next then-to (i + 1)
 put-next was text at n is next to then-to i b p e h q s =
     let g : i < length text = omega arith in
     record { so-far = rw (add-one, take-suc text i 0 g, ← q) (then (p .so-far) s); inside = omega arith }
 
-pub put-all : (was text : List ℕ) (at n : ℕ) (is : List ℕ) (to i : ℕ) → Putting was at text n is to i → n ≡ length text → n ≤ i → Appended was at text is to
+pub put-all : (was text : List ℕ) (at n : ℕ) (is : List ℕ) (to i : ℕ) →
+    Putting was at text n is to i → n ≡ length text → n ≤ i → Appended was at text is to
 put-all was text at n is to i p e h = rw (← (take-all i text (omega arith))) (p .so-far)
-
--- A FILE'S NAME
-files-name : (f : File) → take (nameSize f) (nameBytes f) ≡ fileName f
-unfolding bytes nameBytes
-files-name Delivery = refl
-files-name Company = refl
-files-name Country = refl
-files-name Trnsmode = refl
-files-name Timezone = refl
-files-name Stations = refl
-files-name Footnote = refl
-files-name Timetbls = refl
-files-name Changes = refl
-files-name Xfootnote = refl
-files-name Xchanges = refl
-
-pub name-fits : (f : File) → nameSize f ≤ length (nameBytes f)
-unfolding bytes nameBytes
-name-fits Delivery = omega arith
-name-fits Company = omega arith
-name-fits Country = omega arith
-name-fits Trnsmode = omega arith
-name-fits Timezone = omega arith
-name-fits Stations = omega arith
-name-fits Footnote = omega arith
-name-fits Timetbls = omega arith
-name-fits Changes = omega arith
-name-fits Xfootnote = omega arith
-name-fits Xchanges = omega arith
-
-pub name-put : {a b name : List ℕ} {i j size : ℕ} (f : File) → name ≡ nameBytes f → size ≡ nameSize f → Appended a i (take size name) b j → Appended a i (fileName f) b j
-name-put f n s p = rw (← (files-name f), ← n, ← s) p
 
 -- A NUMBER'S DIGITS
 one-digit : (k n : ℕ) → n < 10 → digits k n ≡ lastDigit n ∷ []
@@ -136,5 +103,6 @@ module _ {a c : List ℕ} {i j last : ℕ} (k n : ℕ) (l : last ≡ lastDigit n
   pub small-number : n < 10 → Appended a i (last ∷ []) c j → Appended a i (digits k n) c j
   small-number h p = rw (one-digit k n h, ← l) p
 
-  pub more-digits : {b : List ℕ} {m : ℕ} → ((k ≡ 0) → ⊥) → 10 ≤ n → Appended a i (digits (k - 1) (n / 10)) b m → Appended b m (last ∷ []) c j → Appended a i (digits k n) c j
+  pub more-digits : {b : List ℕ} {m : ℕ} →
+      ((k ≡ 0) → ⊥) → 10 ≤ n → Appended a i (digits (k - 1) (n / 10)) b m → Appended b m (last ∷ []) c j → Appended a i (digits k n) c j
   more-digits e h p q = rw (a-tenth k n e h, ← l) (then p q)

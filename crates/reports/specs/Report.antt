@@ -1,10 +1,11 @@
--- The check program's second line: "the first larger file makes the second line `larger` and its name"; "Fields: days, services"; "number, file, ordinal, line".
+-- The check program's second line: "the first larger file makes the second line `larger` and its name"; "Fields: days, services";
+-- "number, file, ordinal, line".
 use Prim.Native.Nat.{ℕ, _≤_}
 use mathlib.Core.List.{List, [], _∷_, _++_}
 use Rattle.iff.specs.Bytes.{bytes, blank, lf}
+use Rattle.iff.specs.Files.{fileName}
 use Rattle.iff.specs.Refusals.{number, ordinal, lineAt}
 use Rattle.iff.specs.declared.File.{File}
-use Rattle.iff.specs.declared.File.the-variants.{Delivery, Company, Country, Trnsmode, Timezone, Stations, Footnote, Timetbls, Changes, Xfootnote, Xchanges}
 use Rattle.iff.specs.declared.Place.{Place}
 use Rattle.iff.specs.declared.Place.the-variants.{Nowhere, At}
 use Rattle.iff.specs.declared.Answer.{Answer}
@@ -12,20 +13,6 @@ use Rattle.iff.specs.declared.Answer.the-variants.{Accepted, Refused}
 use Rattle.reports.specs.declared.Report.{Report}
 use Rattle.reports.specs.declared.Report.the-variants.{Larger, Answered}
 use Rattle.reports.specs.Texts.{decimal}
-
--- a file's name
-abbrev pub fileName : File → List ℕ
-fileName Delivery = bytes "DELIVERY"
-fileName Company = bytes "COMPANY"
-fileName Country = bytes "COUNTRY"
-fileName Trnsmode = bytes "TRNSMODE"
-fileName Timezone = bytes "TIMEZONE"
-fileName Stations = bytes "STATIONS"
-fileName Footnote = bytes "FOOTNOTE"
-fileName Timetbls = bytes "TIMETBLS"
-fileName Changes = bytes "CHANGES"
-fileName Xfootnote = bytes "XFOOTNOTE"
-fileName Xchanges = bytes "XCHANGES"
 
 -- the file of a place; 0 where there is none
 abbrev pub placeName : Place → List ℕ
@@ -51,30 +38,3 @@ reportLine (Answered a) = answerLine a
 -- the path of a file in a folder, whose own path is empty or ends in `/`
 abbrev pub pathOf : List ℕ → File → List ℕ
 pathOf folder f = folder ++ fileName f
-
--- names as the code has them: nine bytes, and how many of them are the name
-abbrev pub nameSize : File → ℕ
-nameSize Delivery = 8
-nameSize Company = 7
-nameSize Country = 7
-nameSize Trnsmode = 8
-nameSize Timezone = 8
-nameSize Stations = 8
-nameSize Footnote = 8
-nameSize Timetbls = 8
-nameSize Changes = 7
-nameSize Xfootnote = 9
-nameSize Xchanges = 8
-
-unfoldable pub nameBytes : File → List ℕ
-nameBytes Delivery = bytes "DELIVERY "
-nameBytes Company = bytes "COMPANY  "
-nameBytes Country = bytes "COUNTRY  "
-nameBytes Trnsmode = bytes "TRNSMODE "
-nameBytes Timezone = bytes "TIMEZONE "
-nameBytes Stations = bytes "STATIONS "
-nameBytes Footnote = bytes "FOOTNOTE "
-nameBytes Timetbls = bytes "TIMETBLS "
-nameBytes Changes = bytes "CHANGES  "
-nameBytes Xfootnote = bytes "XFOOTNOTE"
-nameBytes Xchanges = bytes "XCHANGES "

@@ -1,15 +1,18 @@
 // The check program's second line and the paths that it opens, put together as text in a lent buffer. What has no room is cut off.
 use iff::Answer;
 use iff::File;
+use iff::GroupFile;
 use iff::Place;
 use iff::Reason;
+use iff::RowFile;
 ghost use mathlib.Core.Path.{_≡_};
 ghost use mathlib.Core.List.{[], _∷_};
 ghost use Prim.Native.Nat.{_≤_};
 ghost use lib.ListN.{length, take};
 ghost use Rattle.iff.specs.Bytes.{blank};
+ghost use Rattle.iff.specs.Files.{rowFileName, groupFileName, fileName};
 ghost use Rattle.reports.specs.Texts.{Appended, Front, lastDigit, digits, decimal};
-ghost use Rattle.reports.specs.Report.{fileName, placeName, field, answerLine, whereText, reportLine, pathOf, nameSize, nameBytes};
+ghost use Rattle.reports.specs.Report.{placeName, field, answerLine, whereText, reportLine, pathOf};
 ghost use Rattle.iff.specs.declared.Answer.the-variants.{Accepted, Refused};
 ghost use Rattle.reports.specs.declared.Report.the-variants.{Larger};
 
@@ -81,48 +84,38 @@ fn put_field(out: &mut [u8], at: usize, n: u64) -> usize
 
 // NAMES
 
-fn name_bytes(file: File) -> [u8; 9]
-    ensures { λ r. ⌜ r ≡ nameBytes file ⌝ }
+fn put_row_name(out: &mut [u8], at: usize, file: RowFile) -> usize
+    ensures { λ r. ⌜ Appended (now (out .entry)) at (rowFileName file) (now (out .exit)) r ⌝ }
 {
     match file {
-        File::Delivery => *b"DELIVERY ",
-        File::Company => *b"COMPANY  ",
-        File::Country => *b"COUNTRY  ",
-        File::Trnsmode => *b"TRNSMODE ",
-        File::Timezone => *b"TIMEZONE ",
-        File::Stations => *b"STATIONS ",
-        File::Footnote => *b"FOOTNOTE ",
-        File::Timetbls => *b"TIMETBLS ",
-        File::Changes => *b"CHANGES  ",
-        File::Xfootnote => *b"XFOOTNOTE",
-        File::Xchanges => *b"XCHANGES ",
+        RowFile::Company => put_bytes(out, at, b"COMPANY"),
+        RowFile::Country => put_bytes(out, at, b"COUNTRY"),
+        RowFile::Trnsmode => put_bytes(out, at, b"TRNSMODE"),
+        RowFile::Stations => put_bytes(out, at, b"STATIONS"),
     }
 }
 
-fn name_size(file: File) -> usize
-    ensures { λ r. ⌜ r ≡ nameSize file ⌝ }
+fn put_group_name(out: &mut [u8], at: usize, file: GroupFile) -> usize
+    ensures { λ r. ⌜ Appended (now (out .entry)) at (groupFileName file) (now (out .exit)) r ⌝ }
 {
     match file {
-        File::Delivery => 8,
-        File::Company => 7,
-        File::Country => 7,
-        File::Trnsmode => 8,
-        File::Timezone => 8,
-        File::Stations => 8,
-        File::Footnote => 8,
-        File::Timetbls => 8,
-        File::Changes => 7,
-        File::Xfootnote => 9,
-        File::Xchanges => 8,
+        GroupFile::Timezone => put_bytes(out, at, b"TIMEZONE"),
+        GroupFile::Footnote => put_bytes(out, at, b"FOOTNOTE"),
+        GroupFile::Changes => put_bytes(out, at, b"CHANGES"),
+        GroupFile::Xfootnote => put_bytes(out, at, b"XFOOTNOTE"),
+        GroupFile::Xchanges => put_bytes(out, at, b"XCHANGES"),
     }
 }
 
 fn put_name(out: &mut [u8], at: usize, file: File) -> usize
     ensures { λ r. ⌜ Appended (now (out .entry)) at (fileName file) (now (out .exit)) r ⌝ }
 {
-    let name = name_bytes(file);
-    let size = name_size(file);
-    put_bytes(out, at, &name[..size])
+    match file {
+        File::Delivery => put_bytes(out, at, b"DELIVERY"),
+        File::Rows(f) => put_row_name(out, at, f),
+        File::Groups(f) => put_group_name(out, at, f),
+        File::Timetbls => put_bytes(out, at, b"TIMETBLS"),
+    }
 }
 
 // A place's file behind a blank; 0 where there is none.

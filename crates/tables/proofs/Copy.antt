@@ -8,7 +8,8 @@ use lib.Seq.{paste, paste-suc, take-length}
 use Rattle.iff.specs.Tables.{Row, putRow}
 
 -- the first k words are copied, and then one more
-pub copy-next : (t₀ : List ℕ) (at : ℕ) (row : Row) (t : List ℕ) (k : ℕ) → at + k < length t₀ → k < length row → t ≡ paste t₀ at row k → set t (at + k) (getD row k 0) ≡ paste t₀ at row (k + 1)
+pub copy-next : (t₀ : List ℕ) (at : ℕ) (row : Row) (t : List ℕ) (k : ℕ) → at + k < length t₀ → k < length row → t ≡ paste t₀ at row k
+    → set t (at + k) (getD row k 0) ≡ paste t₀ at row (k + 1)
 copy-next t₀ at row t k h l e = rw (e, add-one) (paste-suc t₀ at row k 0 h l)
 
 -- and at last all of them

@@ -120,7 +120,9 @@ unfolding rowsUpTo joined
 joined-rows w zero t = rw zero-mul
 joined-rows w (suc m) t = go (eqb (getD t 0 0) 0) (joined-rows w m (drop w t))
   where
-    go : (b : Bool) → joined (rowsUpTo w m (drop w t)) ≡ take (length (rowsUpTo w m (drop w t)) * w) (drop w t) → joined (cond b [] (take w t ∷ rowsUpTo w m (drop w t))) ≡ take (length (cond b [] (take w t ∷ rowsUpTo w m (drop w t))) * w) t
+    go : (b : Bool) → joined (rowsUpTo w m (drop w t)) ≡ take (length (rowsUpTo w m (drop w t)) * w) (drop w t)
+        → joined (cond b [] (take w t ∷ rowsUpTo w m (drop w t)))
+        ≡ take (length (cond b [] (take w t ∷ rowsUpTo w m (drop w t))) * w) t
     go true e = rw zero-mul
     go false e =
         let k : suc (length (rowsUpTo w m (drop w t))) * w ≡ w + length (rowsUpTo w m (drop w t)) * w = rw suc-mul (omega arith) in

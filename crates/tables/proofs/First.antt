@@ -40,7 +40,9 @@ unfolding firstRow
 first-passing p k [] i e = absurd (true≢false (sym (ap found e)))
 first-passing p k (r ∷ rs) i e = go (p r) refl e (first-passing p (suc k) rs i)
   where
-    go : (b : Bool) → p r ≡ b → cond b (RowIs k) (firstRow p (suc k) rs) ≡ RowIs i → (firstRow p (suc k) rs ≡ RowIs i → (suc k ≤ i) × Passing p rs (i - suc k)) → (k ≤ i) × Passing p (r ∷ rs) (i - k)
+    go : (b : Bool) → p r ≡ b → cond b (RowIs k) (firstRow p (suc k) rs) ≡ RowIs i
+        → (firstRow p (suc k) rs ≡ RowIs i → (suc k ≤ i) × Passing p rs (i - suc k))
+        → (k ≤ i) × Passing p (r ∷ rs) (i - k)
     go true q e ih =
         let s : k ≡ i = ap numberOf e in
         let z : i - k ≡ 0 = omega arith in
@@ -58,7 +60,8 @@ pub record FoundRow (p : Row → Bool) (w : ℕ) (t : List ℕ) (from to i : ℕ
   pub passes : p (rowAt w t i) ≡ true
 
 module _ (p : Row → Bool) (w : ℕ) (t : List ℕ) where
-  pub found-between : (from to i : ℕ) → to * w ≤ length t → firstRow p from (rowsUpTo w (to - from) (drop (from * w) t)) ≡ RowIs i → FoundRow p w t from to i
+  pub found-between : (from to i : ℕ) → to * w ≤ length t → firstRow p from (rowsUpTo w (to - from) (drop (from * w) t)) ≡ RowIs i
+      → FoundRow p w t from to i
   found-between from to i h e =
       let f = first-passing p from (rowsUpTo w (to - from) (drop (from * w) t)) i e in
       let m = rows-most w (to - from) (drop (from * w) t) in

@@ -29,6 +29,7 @@ module _ (f : File) (k : ℕ) where
   has-keys (r ∷ rs) = go (keyRow r) (has-keys rs)
     where
       go : (b : Bool) → has k (keysOf f rs) ≡ any (keyed (keyTag f) (keyWord f) k) rs
-          → has k (keyIn (cond b (r ∷ kept keyRow rs) (kept keyRow rs))) ≡ ((b && eqb (word r (keyWord f)) k) || any (keyed (keyTag f) (keyWord f) k) rs)
+          → has k (keyIn (cond b (r ∷ kept keyRow rs) (kept keyRow rs)))
+          ≡ ((b && eqb (word r (keyWord f)) k) || any (keyed (keyTag f) (keyWord f) k) rs)
       go true e = rw (e, eqb-sym k)
       go false e = e

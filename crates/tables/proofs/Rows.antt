@@ -91,12 +91,14 @@ module _ (w : ℕ) where
   rows-fewer zero (suc m) t h = absurd (omega arith)
   rows-fewer (suc n) (suc m) t h = go (eqb (getD t 0 0) 0) (rows-fewer n m (drop w t) (omega arith))
     where
-      go : (b : Bool) → rowsUpTo w m (drop w t) ≡ take m (rowsUpTo w n (drop w t)) → either w t (rowsUpTo w m (drop w t)) b ≡ take (suc m) (either w t (rowsUpTo w n (drop w t)) b)
+      go : (b : Bool) → rowsUpTo w m (drop w t) ≡ take m (rowsUpTo w n (drop w t))
+          → either w t (rowsUpTo w m (drop w t)) b ≡ take (suc m) (either w t (rowsUpTo w n (drop w t)) b)
       go true e = refl
       go false e = ap (λ (l : List Row). take w t ∷ l) e
 
   -- the rows from i on and before j
-  pub rows-between : (n : ℕ) (t : List ℕ) (i j : ℕ) → i ≤ length (rowsUpTo w n t) → j ≤ n → rowsUpTo w (j - i) (drop (i * w) t) ≡ take (j - i) (drop i (rowsUpTo w n t))
+  pub rows-between : (n : ℕ) (t : List ℕ) (i j : ℕ) → i ≤ length (rowsUpTo w n t) → j ≤ n
+      → rowsUpTo w (j - i) (drop (i * w) t) ≡ take (j - i) (drop i (rowsUpTo w n t))
   rows-between n t i j h g = rows-fewer (n - i) (j - i) (drop (i * w) t) (omega arith) ∙ ap (take (j - i)) (rows-from n t i h)
 
 module _ (w : ℕ) (s : 0 < w) where
@@ -108,7 +110,8 @@ module _ (w : ℕ) (s : 0 < w) where
       let f : n * w + w ≤ length t = rw suc-mul at h in
       go (eqb (getD t 0 0) 0) refl (omega arith) (rows-used n (drop w t) (rw length-drop (omega arith)))
     where
-      go : (b : Bool) → eqb (getD t 0 0) 0 ≡ b → w ≤ length t → Each (Used w) (rowsUpTo w n (drop w t)) → Each (Used w) (either w t (rowsUpTo w n (drop w t)) b)
+      go : (b : Bool) → eqb (getD t 0 0) 0 ≡ b → w ≤ length t → Each (Used w) (rowsUpTo w n (drop w t))
+          → Each (Used w) (either w t (rowsUpTo w n (drop w t)) b)
       go true e f u = tt
       go false e f u = ((length-take-le w t f, rw getD-take e), u)
 

@@ -3,7 +3,9 @@ use Prim.Native.Nat.{_≤_, _<_}
 use native.Mathlib.Omega.{arith}
 use Rattle.iff.specs.Tables.{rowWidth, keyWord}
 use Rattle.iff.specs.declared.File.{File}
-use Rattle.iff.specs.declared.File.the-variants.{Delivery, Company, Country, Trnsmode, Timezone, Stations, Footnote, Timetbls, Changes, Xfootnote, Xchanges}
+use Rattle.iff.specs.declared.File.the-variants.{Delivery, Rows, Groups, Timetbls}
+use Rattle.iff.specs.declared.RowFile.the-variants.{Company, Country, Trnsmode, Stations}
+use Rattle.iff.specs.declared.GroupFile.the-variants.{Timezone, Footnote, Changes, Xfootnote, Xchanges}
 
 pub record Widths (f : File) : Type 0 where
   pub some : 0 < rowWidth f
@@ -13,13 +15,13 @@ pub record Widths (f : File) : Type 0 where
 
 pub widths : (f : File) → Widths f
 widths Delivery = omega arith
-widths Company = omega arith
-widths Country = omega arith
-widths Trnsmode = omega arith
-widths Timezone = omega arith
-widths Stations = omega arith
-widths Footnote = omega arith
+widths (Rows Company) = omega arith
+widths (Rows Country) = omega arith
+widths (Rows Trnsmode) = omega arith
+widths (Rows Stations) = omega arith
+widths (Groups Timezone) = omega arith
+widths (Groups Footnote) = omega arith
+widths (Groups Changes) = omega arith
+widths (Groups Xfootnote) = omega arith
+widths (Groups Xchanges) = omega arith
 widths Timetbls = omega arith
-widths Changes = omega arith
-widths Xfootnote = omega arith
-widths Xchanges = omega arith

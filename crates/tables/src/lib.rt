@@ -1,10 +1,13 @@
 // Rows in lent u64 slices: read, write, clear, count, look up. Every function is stated over the width of a row.
 ghost use mathlib.Core.Path.{_≡_};
-ghost use Prim.Native.Nat.{ℕ, _+_, _-_, _*_, _/_, _<_, _≤_};
-ghost use lib.ListN.{length, drop, replicate};
+ghost use Prim.Native.Nat.{_+_, _-_, _*_, _/_, _<_, _≤_};
+ghost use lib.ListN.{length, getD, drop, replicate};
 ghost use Rattle.iff.specs.Lists.{any};
-ghost use Rattle.iff.specs.Tables.{rowWidth, room as roomOf, word, rowAt, putRow, rowsUpTo, rowsOfWidth, allZero, keyed, firstRow};
+ghost use Rattle.iff.specs.Tables.{room as roomOf, word, rowAt, putRow, rowsUpTo, rowsOfWidth, allZero, keyed, firstRow};
 ghost use Rattle.tables.specs.Widths.{WidthOf};
+
+// How many words a row of TIMETBLS has.
+pub const BLOCK_WIDTH: usize = 7;
 
 // How many words a row of a file's table has.
 pub fn row_width(file: iff::File) -> usize
@@ -12,16 +15,15 @@ pub fn row_width(file: iff::File) -> usize
 {
     match file {
         iff::File::Delivery => 6,
-        iff::File::Company => 6,
-        iff::File::Country => 6,
-        iff::File::Trnsmode => 6,
-        iff::File::Timezone => 6,
-        iff::File::Stations => 6,
-        iff::File::Footnote => 14,
-        iff::File::Timetbls => 7,
-        iff::File::Changes => 6,
-        iff::File::Xfootnote => 14,
-        iff::File::Xchanges => 7,
+        iff::File::Rows(_) => 6,
+        iff::File::Groups(group) => match group {
+            iff::GroupFile::Timezone => 6,
+            iff::GroupFile::Footnote => iff::limits::WIDEST_ROW,
+            iff::GroupFile::Changes => 6,
+            iff::GroupFile::Xfootnote => iff::limits::WIDEST_ROW,
+            iff::GroupFile::Xchanges => 7,
+        },
+        iff::File::Timetbls => BLOCK_WIDTH,
     }
 }
 
@@ -31,6 +33,13 @@ pub fn room(file: iff::File, length: usize) -> usize
 {
     let w = row_width(file);
     length / w
+}
+
+// Word `k` of a table, and 0 where it has none: so a reader can look into a table that may be empty.
+pub fn word_or_zero(t: &[u64], k: usize) -> u64
+    ensures { λ r. ⌜ r ≡ getD (now (t .entry)) k 0 ⌝ }
+{
+    if k < t.len() { t[k] } else { 0 }
 }
 
 // Word `k` of row `i`.
@@ -87,7 +96,7 @@ pub fn row_count(t: &[u64], w: usize) -> usize
     let rows = t.len() / w;
     let mut i = 0;
     while i < rows {
-        if word_at(t, w, i, 0) == 0 {
+        if word_at(t, w, i, iff::words::TAG) == 0 {
             return i;
         }
         i += 1;
@@ -100,7 +109,7 @@ pub fn keyed_at(t: &[u64], w: usize, i: usize, tag: u64, col: usize, key: u64) -
     requires { ⌜ (col < w) × (i * w + w ≤ length (now t)) ⌝ }
     ensures { λ r. ⌜ r ≡ keyed tag col key (rowAt w (now (t .entry)) i) ⌝ }
 {
-    if word_at(t, w, i, 0) != tag {
+    if word_at(t, w, i, iff::words::TAG) != tag {
         return false;
     }
     word_at(t, w, i, col) == key
@@ -121,7 +130,7 @@ pub fn find_key_in(
 {
     let mut i = from;
     while i < to {
-        if word_at(t, w, i, 0) == 0 {
+        if word_at(t, w, i, iff::words::TAG) == 0 {
             return iff::RowOf::NoRow;
         }
         if keyed_at(t, w, i, tag, col, key) {

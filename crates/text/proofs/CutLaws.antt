@@ -73,8 +73,10 @@ closed-end [] b = end-line b ∙ rw (end-line [], lines-nil)
 closed-end (x ∷ []) b = one-line x b ∙ rw (one-line x [], lines-nil)
 closed-end (x ∷ y ∷ s) b = lines-two x y ((s ++ ending) ++ b) ∙ go (crlf x y) refl (closed-end s b) (closed-end (y ∷ s) b)
   where
-    go : (t : Bool) → crlf x y ≡ t → lines ((s ++ ending) ++ b) ≡ lines (s ++ ending) ++ lines b → lines ((y ∷ s ++ ending) ++ b) ≡ lines (y ∷ s ++ ending) ++ lines b
-        → cond t (record { body = []; ended = true } ∷ lines ((s ++ ending) ++ b)) (before x (lines ((y ∷ s ++ ending) ++ b))) ≡ lines (x ∷ y ∷ s ++ ending) ++ lines b
+    go : (t : Bool) → crlf x y ≡ t → lines ((s ++ ending) ++ b) ≡ lines (s ++ ending) ++ lines b
+        → lines ((y ∷ s ++ ending) ++ b) ≡ lines (y ∷ s ++ ending) ++ lines b
+        → cond t (record { body = []; ended = true } ∷ lines ((s ++ ending) ++ b)) (before x (lines ((y ∷ s ++ ending) ++ b))) ≡ lines
+        (x ∷ y ∷ s ++ ending) ++ lines b
     go true e p q = rw (p, lines-two x y (s ++ ending), e)
     go false e p q =
         let n = not-empty y (s ++ ending) in

@@ -8,7 +8,7 @@ use native.Mathlib.Omega.{arith}
 use native.Mathlib.Numerals.{add-one, add-two}
 use lib.Dec.{leb·suc-suc, eqb, ltb}
 use lib.ListN.{length, getD, take, drop, length-drop, drop-of-length-le}
-use lib.Seq.{drop-cons, getD-drop, drop-drop, drop-length, take-all}
+use lib.Seq.{drop-cons, getD-drop, drop-drop, drop-length, take-all, take-nil}
 use borrow.Author.Tests.{lt-ltb, le-ltb, ltb-true, ltb-false}
 use Rattle.iff.specs.declared.Eol.{Eol}
 use Rattle.iff.specs.declared.Eol.the-variants.{Ended, Unended}
@@ -124,7 +124,8 @@ module _ (t : List ℕ) (at : ℕ) (h : at < length t) where
   pub after-unended : eolAt t at ≡ Unended → lines (drop at t) ≡ remainder t at ∷ []
   after-unended q = go (ltb (at + width (drop at t)) (length t)) refl q
     where
-      go : (b : Bool) → ltb (at + width (drop at t)) (length t) ≡ b → cond b (Ended (at + width (drop at t))) Unended ≡ Unended → lines (drop at t) ≡ remainder t at ∷ []
+      go : (b : Bool) → ltb (at + width (drop at t)) (length t) ≡ b → cond b (Ended (at + width (drop at t))) Unended ≡ Unended
+          → lines (drop at t) ≡ remainder t at ∷ []
       go true b q′ = absurd (let z : _≡_ {A = ℕ} 0 1 = cc in omega arith)
       go false b q′ =
           let i : length t ≤ at + width (drop at t) = ltb-false _ _ b in
@@ -164,7 +165,16 @@ counted-ended t n at e h q i =
     (omega arith, a .high, omega (arith, ap length (a .head)))
 
 pub counted-unended : (t : List ℕ) (n at : ℕ) → at < length t → eolAt t at ≡ Unended → Counted t n at → Counted t (n + 1) (length t)
-counted-unended t n at h q i = (omega arith, omega arith, omega (arith, ap length (after-unended t at h q), ap length (lines-end t (length t) (omega arith))))
+counted-unended t n at h q i =
+    (omega arith, omega arith, omega (arith, ap length (after-unended t at h q), ap length (lines-end t (length t) (omega arith))))
 
 pub counted-end : (t : List ℕ) (n at : ℕ) → length t ≤ at → Counted t n at → n ≡ length (lines t)
 counted-end t n at h i = omega (arith, ap length (lines-end t at h))
+
+-- SOME COLUMNS OF A LINE, where it is too short for them: none, or those that are left
+pub no-columns : (s : List ℕ) (from to : ℕ) → length s ≤ from → [] ≡ take (to - from) (drop from s)
+no-columns s from to h = rw (drop-of-length-le s h, take-nil)
+
+pub few-columns : (s : List ℕ) (from to : ℕ) → length s < to → take (length s - from) (drop from s) ≡ take (to - from) (drop from s)
+few-columns s from to h =
+    rw (take-all (length s - from) (drop from s) (rw length-drop (omega arith)), take-all (to - from) (drop from s) (rw length-drop (omega arith)))

@@ -85,7 +85,8 @@ code-same s t n p q e =
 pub number-same : (s t : List ℕ) → length s ≡ length t → all digit s ≡ true → all digit t ≡ true → numberOf s ≡ numberOf t → s ≡ t
 number-same s t n p q e =
     let f = same-figures 10 48 0 0 s t n (digits-in s p) (digits-in t q) e in
-    ext-getD 0 s t n (λ i h. omega (arith, f .1 i, digit-is (getD s i 0) (all-at digit s p i h), digit-is (getD t i 0) (all-at digit t q i (omega arith))))
+    ext-getD 0 s t n
+    (λ i h. omega (arith, f .1 i, digit-is (getD s i 0) (all-at digit s p i h), digit-is (getD t i 0) (all-at digit t q i (omega arith))))
 
 -- UNPACKED: the bytes of a field's code are the field's, the last first
 last : (n acc b : ℕ) → b < 256 → codeBytes (suc n) (acc * 256 + (b - 0)) ≡ b ∷ codeBytes n acc

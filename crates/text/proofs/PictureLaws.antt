@@ -123,7 +123,9 @@ module _ (f : ℕ → ℕ → Bool) (s t : List ℕ) (left : ℕ) where
   abbrev pub Passed : Type 0
   Passed = (length s ≡ length t) × (left ≤ length s) × (all2 f s t ≡ all2 f (drop (length s - left) s) (drop (length s - left) t))
 
-  here : 0 < left → Passed → all2 f s t ≡ (f (getD s (length s - left) 0) (getD t (length s - left) 0) && all2 f (drop (suc (length s - left)) s) (drop (suc (length s - left)) t))
+  here : 0 < left → Passed
+      → all2 f s t
+      ≡ (f (getD s (length s - left) 0) (getD t (length s - left) 0) && all2 f (drop (suc (length s - left)) s) (drop (suc (length s - left)) t))
   unfolding all2
   here h p =
       let i : length s - left < length s = omega arith in
@@ -140,7 +142,8 @@ module _ (f : ℕ → ℕ → Bool) (s t : List ℕ) (left : ℕ) where
       let k : length t ≤ length s - left = omega arith in
       sym (p .2 ∙ rw (drop-of-length-le s i, drop-of-length-le t k))
 
-pub passes : (f : ℕ → ℕ → Bool) (s t : List ℕ) (left : ℕ) → 0 < left → f (getD s (length s - left) 0) (getD t (length s - left) 0) ≡ true → Passed f s t left → Passed f s t (left - 1)
+pub passes : (f : ℕ → ℕ → Bool) (s t : List ℕ) (left : ℕ) → 0 < left → f (getD s (length s - left) 0) (getD t (length s - left) 0) ≡ true
+    → Passed f s t left → Passed f s t (left - 1)
 passes f s t left h e p =
     let k : length s - (left - 1) ≡ suc (length s - left) = omega arith in
     (p .0, omega arith, rw k (here f s t left h p ∙ rw e))

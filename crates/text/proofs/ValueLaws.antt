@@ -63,7 +63,8 @@ next-fits k base acc d hb hd ha hk =
     let p : 256 ^ (k + 1) ≤ 256 ^ 8 = pow-le-pow-right (lit< tt) {i = k + 1} {j = 8} (omega arith) in
     omega (arith, next-below k base acc d hb hd ha)
 
-pub valued-next : (base off : ℕ) (s : List ℕ) (i acc d : ℕ) → base ≤ 256 → d < 256 → d ≡ getD s i 0 - off → i < length s → Valued base off s i acc → Valued base off s (i + 1) (acc * base + d)
+pub valued-next : (base off : ℕ) (s : List ℕ) (i acc d : ℕ) → base ≤ 256 → d < 256 → d ≡ getD s i 0 - off → i < length s → Valued base off s i acc
+    → Valued base off s (i + 1) (acc * base + d)
 unfolding value
 valued-next base off s i acc d hb hd e h v = (omega arith, next-below i base acc d hb hd (v .1), v .2 ∙ there)
   where

@@ -3,7 +3,7 @@
 ghost use mathlib.Core.Path.{_≡_};
 ghost use mathlib.Core.Bool.{true};
 ghost use Prim.Native.Nat.{_+_, _-_, _≤_, _<_};
-ghost use lib.ListN.{length, take, getD};
+ghost use lib.ListN.{length, take, drop, getD};
 ghost use Rattle.iff.specs.Lists.{all, same};
 ghost use Rattle.iff.specs.Bytes.{allowed, digit, zeroOrOne};
 ghost use Rattle.iff.specs.Lines.{lines, crlf, eolAt};
@@ -125,7 +125,21 @@ pub fn count_lines(text: &[u8]) -> usize
     n
 }
 
-// Columns. Each loop counts down the pairs that are left to compare.
+// Columns `from..to` of a line, counted from 0, as far as it goes.
+pub fn columns_of(line: &[u8], from: usize, to: usize) -> &[u8]
+    requires { ⌜ from ≤ to ⌝ }
+    ensures { λ r. ⌜ now r ≡ take (to - from) (drop from (now (line .entry))) ⌝ }
+{
+    if line.len() <= from {
+        return &line[0..0];
+    }
+    if line.len() < to {
+        return &line[from..];
+    }
+    &line[from..to]
+}
+
+// Columns beside a picture. Each loop counts down the pairs that are left to compare.
 
 // A comma in a gap, an allowed byte elsewhere.
 fn is_column(b: u8, mark: u8) -> bool

@@ -11,12 +11,13 @@ use Rattle.iff.specs.Bytes.{hash}
 use Rattle.iff.specs.Lists.{front, has, members}
 use Rattle.iff.specs.Refusals.{firstTest}
 use Rattle.iff.specs.Lines.{lines, isHash}
-use Rattle.iff.specs.Tables.{Row, joined, fill, rowsIn, keysOf}
+use Rattle.iff.specs.Tables.{Row, rowWidth, joined, fill, rowsIn, keysOf}
+use Rattle.iff.specs.declared.Form.{Form}
 use Rattle.iff.specs.declared.File.the-variants.{Timetbls}
 use Rattle.iff.specs.declared.Reason.{Reason}
 use Rattle.iff.specs.declared.Reason.the-variants.{Layout, Order}
 use Rattle.iff.specs.declared.Test.the-variants.{Passes, Fails}
-use Rattle.iff_rules.specs.Order.{lineTest, known}
+use Rattle.iff_rules.specs.Order.{lineTest, knownInBlock}
 use Rattle.iff_rules.specs.Rows.{blockRows, linesIn, stopsIn, asBlock}
 use Rattle.iff_rules.specs.Load.{serviceOf}
 use Rattle.text.specs.declared.LineSpan.{LineSpan}
@@ -36,10 +37,11 @@ use Rattle.blocks.specs.declared.Checked.the-variants.{Whole, Broken}
 use Rattle.references.specs.declared.BlockCounts.{BlockCounts}
 use Rattle.blocks.specs.Whole.{WholeBlock, BlockChecked}
 use Rattle.blocks.proofs.WholeLaws.{fresh-service}
-use Rattle.timetbls.specs.declared.Added.the-variants.{Kept, Faulty}
-use Rattle.timetbls.specs.Blocks.{StrayTold, BlockTested, Placeable, Remembered, Addable, BlockAdded}
+use Rattle.block_rows.specs.Written.{Placeable}
+use Rattle.block_rows.proofs.RowLaws.{rows-used, rows-count, block-keys}
+use Rattle.timetbls.specs.declared.BlockPut.the-variants.{Kept, Faulty}
+use Rattle.timetbls.specs.Blocks.{StrayTold, BlockTested, Remembered, Addable, BlockAdded}
 use Rattle.timetbls.proofs.GroupLaws.{front-open, front-closed, front-nil}
-use Rattle.timetbls.proofs.RowLaws.{rows-used, rows-count, block-keys}
 
 -- A LINE BEFORE THE FIRST BLOCK
 module _ (t : List ℕ) (from : ℕ) where
@@ -52,104 +54,125 @@ module _ (t : List ℕ) (from : ℕ) where
   module _ (s : LineSpan) (l : LineAt t from s) (x : ℕ) (p : x ≡ getD (take (s .end - from) (drop from t)) 0 0) where
     pub stray-open : x ≡ hash → StrayTold (lines (drop from t)) Passes
     stray-open h =
-        let e : front isHash (lines (drop from t)) ≡ [] = ap (front isHash) (l .head) ∙ front-open isHash (spanLine t from s) (lines (drop (s .next) t)) (eq-eqb _ _ (sym p ∙ h)) in
+        let e : front isHash (lines (drop from t)) ≡ [] =
+        ap (front isHash) (l .head) ∙ front-open isHash (spanLine t from s) (lines (drop (s .next) t)) (eq-eqb _ _ (sym p ∙ h)) in
         record { says = rw e; clean = λ _. e }
 
-    module _ (h : x ≡ hash → ⊥) (b : Bool) (k : b ≡ known Timetbls x) where
+    module _ (h : x ≡ hash → ⊥) (b : Bool) (k : b ≡ knownInBlock x) where
       strays : front isHash (lines (drop from t)) ≡ spanLine t from s ∷ front isHash (lines (drop (s .next) t))
       strays = ap (front isHash) (l .head) ∙ front-closed isHash (spanLine t from s) (lines (drop (s .next) t)) (ne-eqb _ _ (λ z. h (p ∙ z)))
 
       pub stray-known : b ≡ true → StrayTold (lines (drop from t)) (Fails Order)
       unfolding lineTest firstTest
       stray-known e =
-          let q : known Timetbls (getD (take (s .end - from) (drop from t)) 0 0) ≡ true = sym (ap (known Timetbls) p) ∙ sym k ∙ e in
+          let q : knownInBlock (getD (take (s .end - from) (drop from t)) 0 0) ≡ true = sym (ap knownInBlock p) ∙ sym k ∙ e in
           record { says = rw (strays, q); clean = λ z. absurd (let y : _≡_ {A = ℕ} 0 1 = cc in omega arith) }
 
       pub stray-unknown : b ≡ false → StrayTold (lines (drop from t)) (Fails Layout)
       unfolding lineTest firstTest
       stray-unknown e =
-          let q : known Timetbls (getD (take (s .end - from) (drop from t)) 0 0) ≡ false = sym (ap (known Timetbls) p) ∙ sym k ∙ e in
+          let q : knownInBlock (getD (take (s .end - from) (drop from t)) 0 0) ≡ false = sym (ap knownInBlock p) ∙ sym k ∙ e in
           record { says = rw (strays, q); clean = λ z. absurd (let y : _≡_ {A = ℕ} 0 1 = cc in omega arith) }
 
 -- ONE BLOCK, tested against the services of the table
-pub tested : (b t : List ℕ) (counts : BlockCounts) (co mo st fo : List ℕ) (service : ℕ) (fresh : Bool) (r : Checked) → isHash (asBlock b .top) ≡ true → service ≡ serviceOf (asBlock b)
-    → fresh ≡ not (has service (keysIn Timetbls t)) → BlockChecked b fresh counts co mo st fo r → BlockTested b t counts co mo st fo r
-tested b t counts co mo st fo service fresh r h s f k =
+pub tested : (form : Form) (b t : List ℕ) (counts : BlockCounts) (co mo st fo : List ℕ) (service : ℕ) (fresh : Bool) (r : Checked)
+    → isHash (asBlock b .top) ≡ true → service ≡ serviceOf form (asBlock b) → fresh ≡ not (has service (keysIn Timetbls t))
+    → BlockChecked form b fresh counts co mo st fo r → BlockTested form b t counts co mo st fo r
+tested form b t counts co mo st fo service fresh r h s f k =
     record {
       says =
-          λ c a o. k .says c a (keysIn Timetbls t)
-          (f ∙ ap (λ (x : ℕ). not (has x (keysIn Timetbls t))) s ∙ sym (fresh-service (c .days) (keysIn Timetbls t) (asBlock b) h)) o;
+          λ c d a o. k .says c d a (keysIn Timetbls t)
+          (f ∙ ap (λ (x : ℕ). not (has x (keysIn Timetbls t))) s ∙ sym (fresh-service form (keysIn Timetbls t) (asBlock b) h)) o;
       whole = k .whole;
     }
 
 -- ROWS BEHIND ROWS
+abbrev width : ℕ
+width = rowWidth Timetbls
+
 -- what `write_block` leaves in a table of some rows
-pub fill-more : (n : ℕ) (rs qs : List Row) → Each (Used 7) rs
-    → take (length rs * 7) (fill 7 n rs) ++ (joined qs ++ drop ((length rs + length qs) * 7) (fill 7 n rs)) ≡ fill 7 n (rs ++ qs)
+pub fill-more : (n : ℕ) (rs qs : List Row) → Each (Used width) rs
+    → take (length rs * width) (fill width n rs) ++ (joined qs ++ drop ((length rs + length qs) * width) (fill width n rs)) ≡ fill width n (rs ++ qs)
 unfolding fill
 fill-more n rs qs u =
-    let d : (length rs + length qs) * 7 ≡ length rs * 7 + length qs * 7 = omega arith in
-    let e : n - length rs * 7 - length qs * 7 ≡ n - (length rs + length qs) * 7 = omega arith in
-    rw (fill-front 7 n rs u, d, ← (drop-drop (length qs * 7) (length rs * 7) (fill 7 n rs)), fill-behind 7 n rs u, drop-replicate, e)
+    let d : (length rs + length qs) * width ≡ length rs * width + length qs * width = omega arith in
+    let e : n - length rs * width - length qs * width ≡ n - (length rs + length qs) * width = omega arith in
+    rw (
+      fill-front width n rs u,
+      d,
+      ← (drop-drop (length qs * width) (length rs * width) (fill width n rs)),
+      fill-behind width n rs u,
+      drop-replicate,
+      e,
+    )
     (rw (joined-append, length-append, append-assoc))
 
 -- THE BLOCK IS REFUSED, or kept
-module _ (b was : List ℕ) (counts : BlockCounts) (co mo st fo : List ℕ) (x : Checked) (y : BlockTested b was counts co mo st fo x) where
-  pub added-faulty : (w : Reason) (j : ℕ) → x ≡ Broken w j → (is marks : List ℕ) → BlockAdded b was is marks counts co mo st fo (Faulty w j)
+module _ (form : Form) (b was : List ℕ) (counts : BlockCounts) (co mo st fo : List ℕ) (x : Checked)
+    (y : BlockTested form b was counts co mo st fo x) where
+  pub added-faulty : (w : Reason) (j : ℕ) → x ≡ Broken w j → (is marks : List ℕ) → BlockAdded form b was is marks counts co mo st fo (Faulty w j)
   added-faulty w j e is marks =
       record {
-        says = λ c a o. rw e at (y .says c a o);
+        says = λ c d a o. rw e at (y .says c d a o);
         grown = λ run row q. absurd (let z : _≡_ {A = ℕ} 0 1 = cc in omega arith);
       }
 
   module _ (marks : List ℕ) (run : KeyRun) (row : ℕ) (a : Addable b was marks run row) (k n : ℕ) (e : x ≡ Whole k n) where
-    whole : WholeBlock b k n
+    whole : WholeBlock form b k n
     whole = y .whole k n e
 
-    pub placeable : Placeable b was k n row
+    pub placeable : Placeable form b was k n row
     placeable = record { whole = whole; room = rw (whole .counted) (a .room) }
 
-    abbrev rows : List Row
-    rows = blockRows (asBlock b)
+    abbrev service : ℕ
+    service = serviceOf form (asBlock b)
 
-    used : Each (Used 7) rows
-    used = rows-used (stopsIn (asBlock b)) (linesIn (asBlock b)) 1 (members (asBlock b)) (rw (block-lines b (whole .some)) (whole .each))
+    abbrev rows : List Row
+    rows = blockRows form (asBlock b)
+
+    used : Each (Used width) rows
+    used = rows-used form (stopsIn (asBlock b)) (linesIn (asBlock b)) 1 (members (asBlock b)) (rw (block-lines b (whole .some)) (whole .each))
 
     count : length rows ≡ k
-    count = rows-count (stopsIn (asBlock b)) (linesIn (asBlock b)) 1 (members (asBlock b)) ∙ sym (whole .counted)
+    count = rows-count form (stopsIn (asBlock b)) (linesIn (asBlock b)) 1 (members (asBlock b)) ∙ sym (whole .counted)
 
-    both-used : Each (Used 7) (rowsIn Timetbls was ++ rows)
-    both-used = each-append (Used 7) (rowsIn Timetbls was) rows (table-rows-used 7 (omega arith) was) used
+    both-used : Each (Used width) (rowsIn Timetbls was ++ rows)
+    both-used = each-append (Used width) (rowsIn Timetbls was) rows (table-rows-used width (omega arith) was) used
 
-    fits-both : length (rowsIn Timetbls was ++ rows) * 7 ≤ length was
+    fits-both : length (rowsIn Timetbls was ++ rows) * width ≤ length was
     fits-both = omega (arith, length-append (rowsIn Timetbls was) rows, count, a .holding .rows, placeable .room)
 
-    module _ (is : List ℕ) (m : length is ≡ length was) (w : is ≡ take (row * 7) was ++ (joined rows ++ drop ((row + k) * 7) was)) where
-      filled : is ≡ fill 7 (length was) (rowsIn Timetbls was ++ rows)
+    module _ (is : List ℕ) (m : length is ≡ length was) (w : is ≡ take (row * width) was ++ (joined rows ++ drop ((row + k) * width) was)) where
+      filled : is ≡ fill width (length was) (rowsIn Timetbls was ++ rows)
       filled =
           w
-          ∙ ap (λ (t : List ℕ). take (row * 7) t ++ (joined rows ++ drop ((row + k) * 7) t)) (a .holding .filled)
-          ∙ rw (a .holding .rows, ← count) (fill-more (length was) (rowsIn Timetbls was) rows (table-rows-used 7 (omega arith) was))
+          ∙ ap (λ (t : List ℕ). take (row * width) t ++ (joined rows ++ drop ((row + k) * width) t)) (a .holding .filled)
+          ∙ rw (a .holding .rows, ← count) (fill-more (length was) (rowsIn Timetbls was) rows (table-rows-used width (omega arith) was))
 
       now-rows : rowsIn Timetbls is ≡ rowsIn Timetbls was ++ rows
-      now-rows = ap (rowsIn Timetbls) filled ∙ rows-in-fill 7 (omega arith) (length was) (rowsIn Timetbls was ++ rows) both-used fits-both
+      now-rows = ap (rowsIn Timetbls) filled ∙ rows-in-fill width (omega arith) (length was) (rowsIn Timetbls was ++ rows) both-used fits-both
 
-      now-keys : keysIn Timetbls is ≡ keysIn Timetbls was ++ (serviceOf (asBlock b) ∷ [])
-      now-keys = ap (keysOf Timetbls) now-rows ∙ keys-append Timetbls (rowsIn Timetbls was) rows ∙ rw (block-keys (asBlock b) (a .one .opens) (a .one .single))
+      now-keys : keysIn Timetbls is ≡ keysIn Timetbls was ++ (service ∷ [])
+      now-keys =
+          ap (keysOf Timetbls) now-rows ∙ keys-append Timetbls (rowsIn Timetbls was) rows
+          ∙ rw (block-keys form (asBlock b) (a .one .opens) (a .one .single))
 
-      pub added-kept : (next : KeyRun) (to : ℕ) (more : List ℕ) → Remembered run marks (serviceOf (asBlock b)) more next → to ≡ row + k → BlockAdded b was is more counts co mo st fo (Kept next to)
+      pub added-kept : (next : KeyRun) (to : ℕ) (more : List ℕ) → Remembered run marks service more next → to ≡ row + k
+          → BlockAdded form b was is more counts co mo st fo (Kept next to)
       added-kept next to more p q =
           record {
-            says = λ c g o. rw e at (y .says c g o);
+            says = λ c d g o. rw e at (y .says c d g o);
             grown =
                 λ run′ row′ z. let f : next ≡ run′ = cc in
                 let h : to ≡ row′ = cc in
                 record {
                   holding =
                       record {
-                        marked = rw (now-keys, p .marks) (marked-next marks (keysIn Timetbls was) (serviceOf (asBlock b)) (a .holding .marked));
-                        filled = filled ∙ ap (λ (i : ℕ). fill 7 i (rowsIn Timetbls was ++ rows)) (sym m) ∙ ap (fill 7 (length is)) (sym now-rows);
-                        services = sym f ∙ p .next ∙ rw (now-keys, a .holding .services) (sym (run-next (keysIn Timetbls was) (serviceOf (asBlock b))));
+                        marked = rw (now-keys, p .marks) (marked-next marks (keysIn Timetbls was) service (a .holding .marked));
+                        filled =
+                            filled ∙ ap (λ (i : ℕ). fill width i (rowsIn Timetbls was ++ rows)) (sym m)
+                            ∙ ap (fill width (length is)) (sym now-rows);
+                        services = sym f ∙ p .next ∙ rw (now-keys, a .holding .services) (sym (run-next (keysIn Timetbls was) service));
                         rows = omega (arith, ap length now-rows, length-append (rowsIn Timetbls was) rows, count, a .holding .rows);
                       };
                   rows = now-rows;

@@ -23,7 +23,8 @@ module _ {A : Type 0} (h : A → Bool) where
   front-past [] rs e f = f
   front-past (q ∷ qs) rs e f = go (h q) e (front-past qs rs)
     where
-      go : (b : Bool) → (b || any h qs) ≡ false → (any h qs ≡ false → front h rs ≡ [] → front h (qs ++ rs) ≡ qs) → cond b [] (q ∷ front h (qs ++ rs)) ≡ q ∷ qs
+      go : (b : Bool) → (b || any h qs) ≡ false → (any h qs ≡ false → front h rs ≡ [] → front h (qs ++ rs) ≡ qs)
+          → cond b [] (q ∷ front h (qs ++ rs)) ≡ q ∷ qs
       go true e ih = absurd (false≢true (sym e))
       go false e ih = ap (λ (l : List A). q ∷ l) (ih e f)
 
@@ -38,7 +39,8 @@ module _ {A : Type 0} (h : A → Bool) where
       go false e ih = ih e
 
   -- the first group, and those behind it
-  pub groups-first : (x : A) (qs rs : List A) → h x ≡ true → any h qs ≡ false → front h rs ≡ [] → groups h (x ∷ (qs ++ rs)) ≡ record { top = x; rest = qs } ∷ groups h rs
+  pub groups-first : (x : A) (qs rs : List A) → h x ≡ true → any h qs ≡ false → front h rs ≡ []
+      → groups h (x ∷ (qs ++ rs)) ≡ record { top = x; rest = qs } ∷ groups h rs
   unfolding groups
   groups-first x qs rs t e f = rw (t, front-past qs rs e f, groups-past qs rs e)
 

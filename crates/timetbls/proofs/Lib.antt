@@ -1,5 +1,3 @@
-pub mod RowLaws
-pub mod WriteLaws
 pub mod GroupLaws
 pub mod PartLaws
 pub mod AddLaws

@@ -112,7 +112,9 @@ module _ (t : List ℕ) (from at : ℕ) (k : Seeking t from at) where
         record {
           low = omega (arith, k .low, l .more);
           high = l .high;
-          closed = λ h. rw grown (closed-both (part t from at) (part t at (s .next)) (k .closed (omega (arith, l .more, h))) (line-closed t at s l h));
+          closed =
+              λ h. rw grown
+              (closed-both (part t from at) (part t at (s .next)) (k .closed (omega (arith, l .more, h))) (line-closed t at s l h));
           whole = k .whole ∙ rw (l .head, lines-grown, append-assoc);
           single = rw (lines-grown, behind-first isHash (lines (part t from at)) (spanLine t at s) lines-of-part, any-append isHash, k .single, e);
         }

@@ -3,21 +3,21 @@ use Prim.Native.Nat.{ℕ, _+_, _-_, _*_, _≤_, _<_}
 use mathlib.Core.Path.{_≡_}
 use mathlib.Core.List.{List, [], _∷_, _++_}
 use mathlib.Core.Bool.{true, false}
-use lib.ListN.{length, getD, take, drop}
+use lib.ListN.{length, take, drop}
 use Rattle.iff.specs.Lists.{front, any}
 use Rattle.iff.specs.Refusals.{verdictAt, scan}
 use Rattle.iff.specs.Lines.{Line, lines, isHash}
-use Rattle.iff.specs.Columns.{recordOf}
-use Rattle.iff.specs.Tables.{Row, rowsIn, fill, rising}
+use Rattle.iff.specs.Tables.{Row, rowWidth, rowsIn, fill, rising}
 use Rattle.iff.specs.declared.File.the-variants.{Timetbls}
+use Rattle.iff.specs.declared.Form.{Form}
 use Rattle.iff.specs.declared.Place.the-variants.{At}
 use Rattle.iff.specs.declared.Test.{Test}
 use Rattle.iff.specs.declared.Test.the-variants.{Passes}
 use Rattle.iff.specs.declared.Verdict.{Verdict}
 use Rattle.iff.specs.declared.Verdict.the-variants.{Fine, Fault}
+use Rattle.iff_rules.specs.Order.{knownInBlock}
 use Rattle.iff_rules.specs.Rows.{asBlock, blocksOf, blockRows, blocksRows, linesIn, Context}
 use Rattle.iff_rules.specs.Load.{blockVerdict, serviceOf, strayVerdict, timetblsVerdict}
-use Rattle.records.specs.Facts.{Legible}
 use Rattle.keys.specs.declared.KeyRun.{KeyRun}
 use Rattle.keys.specs.Lookup.{keysIn}
 use Rattle.keys.specs.Runs.{noKeys, runOf, stepRun}
@@ -29,18 +29,8 @@ use Rattle.blocks.specs.declared.Checked.the-variants.{Whole}
 use Rattle.blocks.specs.Whole.{checkedAt, WholeBlock}
 use Rattle.reading.specs.declared.RowsRead.{RowsRead}
 use Rattle.reading.specs.Reading.{Begun, RowsDone, rowsVerdict, risesOf}
-use Rattle.timetbls.specs.declared.Added.{Added}
-use Rattle.timetbls.specs.declared.Added.the-variants.{Kept, Faulty}
-
--- A BLOCK THAT IS WRITTEN
--- a line whose record can be read, by its own letter, into so many words
-abbrev pub Readable : List ℕ → ℕ → Type 0
-Readable body room = Legible 0 (recordOf Timetbls (getD body 0 0)) body room
-
--- a block of k lines and n stops, and room for its rows from row i on
-pub record Placeable (b t : List ℕ) (k n i : ℕ) : Type 0 where
-  pub whole : WholeBlock b k n
-  pub room : (i + k) * 7 ≤ length t
+use Rattle.timetbls.specs.declared.BlockPut.{BlockPut}
+use Rattle.timetbls.specs.declared.BlockPut.the-variants.{Kept, Faulty}
 
 -- WHERE A BLOCK STANDS in a text
 abbrev pub part : List ℕ → ℕ → ℕ → List ℕ
@@ -67,20 +57,22 @@ pub record NextBlock (t : List ℕ) (from r : ℕ) : Type 0 where
 
 -- lines before the first block
 pub record StrayTold (ls : List Line) (r : Test) : Type 0 where
-  pub says : verdictAt (At Timetbls 0 2) r ≡ strayVerdict Timetbls (front isHash ls)
+  pub says : verdictAt (At Timetbls 0 2) r ≡ strayVerdict Timetbls knownInBlock (front isHash ls)
   pub clean : r ≡ Passes → Clean ls
 
 -- A TABLE THAT HOLDS some rows and nothing behind them, and what is remembered of it: its services, with their marks, and how many rows it has
 pub record Holding (t marks : List ℕ) (run : KeyRun) (row : ℕ) : Type 0 where
   pub marked : Marked marks (keysIn Timetbls t)
-  pub filled : t ≡ fill 7 (length t) (rowsIn Timetbls t)
+  pub filled : t ≡ fill (rowWidth Timetbls) (length t) (rowsIn Timetbls t)
   pub services : run ≡ runOf (keysIn Timetbls t)
   pub rows : row ≡ length (rowsIn Timetbls t)
 
 -- A BLOCK THAT IS TESTED after those of the table, whichever its ordinal
-pub record BlockTested (b t : List ℕ) (counts : BlockCounts) (co mo st fo : List ℕ) (r : Checked) : Type 0 where
-  pub says : (c : Context) → BlockKeysAmong c counts co mo st fo → (o : ℕ) → checkedAt o r ≡ blockVerdict c (keysIn Timetbls t) o (asBlock b)
-  pub whole : (k n : ℕ) → r ≡ Whole k n → WholeBlock b k n
+pub record BlockTested (form : Form) (b t : List ℕ) (counts : BlockCounts) (co mo st fo : List ℕ) (r : Checked) : Type 0 where
+  pub says :
+      (c : Context) → c .form ≡ form → BlockKeysAmong c counts co mo st fo → (o : ℕ)
+      → checkedAt o r ≡ blockVerdict c (keysIn Timetbls t) o (asBlock b)
+  pub whole : (k n : ℕ) → r ≡ Whole k n → WholeBlock form b k n
 
 -- A SERVICE THAT IS REMEMBERED, with its mark
 pub record Remembered (run : KeyRun) (was : List ℕ) (service : ℕ) (is : List ℕ) (r : KeyRun) : Type 0 where
@@ -91,35 +83,39 @@ pub record Remembered (run : KeyRun) (was : List ℕ) (service : ℕ) (is : List
 pub record Addable (b t marks : List ℕ) (run : KeyRun) (row : ℕ) : Type 0 where
   pub one : OneBlock b
   pub holding : Holding t marks run row
-  pub room : (row + linesIn (asBlock b)) * 7 ≤ length t
+  pub room : (row + linesIn (asBlock b)) * rowWidth Timetbls ≤ length t
 
-abbrev pub addedAt : ℕ → Added → Verdict
+abbrev pub addedAt : ℕ → BlockPut → Verdict
 addedAt o (Kept run row) = Fine
 addedAt o (Faulty w j) = Fault w (At Timetbls o j)
 
-pub record Grown (b was is marks : List ℕ) (run : KeyRun) (row : ℕ) : Type 0 where
+pub record Grown (form : Form) (b was is marks : List ℕ) (run : KeyRun) (row : ℕ) : Type 0 where
   pub holding : Holding is marks run row
-  pub rows : rowsIn Timetbls is ≡ rowsIn Timetbls was ++ blockRows (asBlock b)
-  pub seen : keysIn Timetbls is ≡ keysIn Timetbls was ++ (serviceOf (asBlock b) ∷ [])
+  pub rows : rowsIn Timetbls is ≡ rowsIn Timetbls was ++ blockRows form (asBlock b)
+  pub seen : keysIn Timetbls is ≡ keysIn Timetbls was ++ (serviceOf form (asBlock b) ∷ [])
 
-pub record BlockAdded (b was is marks : List ℕ) (counts : BlockCounts) (co mo st fo : List ℕ) (r : Added) : Type 0 where
-  pub says : (c : Context) → BlockKeysAmong c counts co mo st fo → (o : ℕ) → addedAt o r ≡ blockVerdict c (keysIn Timetbls was) o (asBlock b)
-  pub grown : (run : KeyRun) (row : ℕ) → r ≡ Kept run row → Grown b was is marks run row
+pub record BlockAdded (form : Form) (b was is marks : List ℕ) (counts : BlockCounts) (co mo st fo : List ℕ) (r : BlockPut) : Type 0 where
+  pub says :
+      (c : Context) → c .form ≡ form → BlockKeysAmong c counts co mo st fo → (o : ℕ)
+      → addedAt o r ≡ blockVerdict c (keysIn Timetbls was) o (asBlock b)
+  pub grown : (run : KeyRun) (row : ℕ) → r ≡ Kept run row → Grown form b was is marks run row
 
 -- BLOCKS ONE AFTER THE OTHER, the first of which is block o, after blocks of some services
 abbrev pub blocksVerdict : Context → List ℕ → ℕ → List Line → Verdict
-blocksVerdict c seen o ls = scan (λ s i g. blockVerdict c s i g) (λ s g. s ++ (serviceOf g ∷ [])) seen o (blocksOf ls)
+blocksVerdict c seen o ls = scan (λ s i g. blockVerdict c s i g) (λ s g. s ++ (serviceOf (c .form) g ∷ [])) seen o (blocksOf ls)
 
 pub record BlocksReady (text : List ℕ) (from : ℕ) (t marks : List ℕ) : Type 0 where
   pub inside : from ≤ length text
   pub clean : Clean (lines (drop from text))
   pub holding : Holding t marks noKeys 1
-  pub room : (1 + length (lines (drop from text))) * 7 ≤ length t
+  pub room : (1 + length (lines (drop from text))) * rowWidth Timetbls ≤ length t
 
-pub record BlocksAdded (text : List ℕ) (from : ℕ) (counts : BlockCounts) (co mo st fo was is : List ℕ) (r : RowsRead) : Type 0 where
-  pub says : (c : Context) → BlockKeysAmong c counts co mo st fo → rowsVerdict r ≡ blocksVerdict c (keysIn Timetbls was) 1 (lines (drop from text))
-  pub filled : rowsVerdict r ≡ Fine → is ≡ fill 7 (length is) (rowsIn Timetbls is)
-  pub rows : rowsVerdict r ≡ Fine → rowsIn Timetbls is ≡ rowsIn Timetbls was ++ blocksRows (blocksOf (lines (drop from text)))
+pub record BlocksAdded (form : Form) (text : List ℕ) (from : ℕ) (counts : BlockCounts) (co mo st fo was is : List ℕ) (r : RowsRead) : Type 0 where
+  pub says :
+      (c : Context) → c .form ≡ form → BlockKeysAmong c counts co mo st fo
+      → rowsVerdict r ≡ blocksVerdict c (keysIn Timetbls was) 1 (lines (drop from text))
+  pub filled : rowsVerdict r ≡ Fine → is ≡ fill (rowWidth Timetbls) (length is) (rowsIn Timetbls is)
+  pub rows : rowsVerdict r ≡ Fine → rowsIn Timetbls is ≡ rowsIn Timetbls was ++ blocksRows form (blocksOf (lines (drop from text)))
   pub rises : rowsVerdict r ≡ Fine → risesOf r ≡ rising (keysIn Timetbls is)
 
 -- THE CONTRACT: lines after a first line whose row alone stands in the table
@@ -131,8 +127,9 @@ pub record AfterFirst (text : List ℕ) (from : ℕ) (t : List ℕ) : Type 0 whe
   pub first : Row
   pub begun : BegunAt text from first t
 
--- whichever row stands there, and on whatever days
-pub record BlocksRead (text : List ℕ) (from : ℕ) (co mo st fo was is : List ℕ) (r : RowsRead) : Type 0 where
+-- whichever row stands there
+pub record BlocksRead (form : Form) (text : List ℕ) (from : ℕ) (co mo st fo was is : List ℕ) (r : RowsRead) : Type 0 where
   pub done :
-      (days : ℕ) (first : Row) → BegunAt text from first was
-      → RowsDone Timetbls days (λ c. BlockKeys c co mo st fo) (λ c. timetblsVerdict c (lines (drop from text))) first (blocksRows (blocksOf (lines (drop from text)))) was is r
+      (first : Row) → BegunAt text from first was
+      → RowsDone Timetbls form (λ c. BlockKeys c co mo st fo) (λ c. timetblsVerdict c (lines (drop from text))) first
+      (blocksRows form (blocksOf (lines (drop from text)))) was is r

@@ -1,13 +1,13 @@
-// TIMETBLS, its first line and the blocks after it: each block is checked before anything of it is written, and the first fault is told with its place.
+// TIMETBLS, its first line and the blocks after it: each block is checked before anything of it is written, and the first fault is told with
+// its place.
 ghost use mathlib.Core.Path.{_≡_};
 ghost use mathlib.Core.Bool.{true};
-ghost use mathlib.Core.List.{_++_};
-ghost use Prim.Native.Nat.{_+_, _*_, _≤_, _<_};
-ghost use lib.ListN.{length, take, drop};
+ghost use Prim.Native.Nat.{_≤_, _<_};
+ghost use lib.ListN.{length, drop};
 ghost use Rattle.iff.specs.Lines.{lines, isHash};
-ghost use Rattle.iff.specs.Tables.{joined, putRow};
+ghost use Rattle.iff.specs.declared.Form.{Form};
 ghost use Rattle.iff.specs.declared.File.the-variants.{Timetbls};
-ghost use Rattle.iff_rules.specs.Rows.{asBlock, blockRow, blockRows};
+ghost use Rattle.iff_rules.specs.Rows.{asBlock};
 ghost use Rattle.iff_rules.specs.Load.{serviceOf};
 ghost use Rattle.iff.specs.Refusals.{fine};
 ghost use Rattle.references.specs.Agree.{BlockKeys};
@@ -15,60 +15,16 @@ ghost use Rattle.keys.specs.Lookup.{keysIn};
 ghost use Rattle.reading.specs.Reading.{Ready, FileRead};
 ghost use Rattle.keys.specs.Runs.{runOf};
 ghost use Rattle.keys.specs.Marks.{slots, Marked};
-ghost use Rattle.timetbls.specs.Blocks.{Readable, Placeable, Clean, NextBlock, StrayTold, BlockTested, Remembered, Addable, BlockAdded, BlocksReady, BlocksAdded, AfterFirst, BlocksRead};
+ghost use Rattle.timetbls.specs.Blocks.{Clean, NextBlock, StrayTold, BlockTested, Remembered, Addable, BlockAdded};
+ghost use Rattle.timetbls.specs.Blocks.{BlocksReady, BlocksAdded, AfterFirst, BlocksRead};
 
 // What became of a block: what is remembered of the services with it, and where the next block's rows go; or why it is refused, and at which line.
-pub enum Added {
+pub enum BlockPut {
     Kept(keys::KeyRun, usize),
     Faulty(iff::Reason, u64),
 }
 
-// Rows.
-
-// The row of line `j` of a block of `k` lines and `n` stops: its record, and the line's number last. The `#` counts lines and stops.
-fn fill_row(line: &[u8], k: u64, n: u64, j: u64, row: &mut [u64])
-    requires { ⌜ Readable (now line) (length (now row)) × (length (now row) ≡ 7) ⌝ }
-    ensures { λ _. ⌜ now (row .exit) ≡ blockRow n k j (record { body = now (line .entry); ended = true }) ⌝ }
-{
-    let letter = text::first_byte(line);
-    let kind = records::record_of(iff::File::Timetbls, letter);
-    records::put_words(kind, letter as u64, 0, n, line, row);
-    row[6] = j;
-    if letter != b'#' {
-        return;
-    }
-    row[2] = k;
-    row[3] = n;
-}
-
-// The same, as row `i` of a table.
-fn put_line(line: &[u8], k: u64, n: u64, j: u64, t: &mut [u64], i: usize)
-    requires { ⌜ Readable (now line) 7 × (i * 7 + 7 ≤ length (now t)) ⌝ }
-    ensures { λ _. ⌜ now (t .exit) ≡ putRow 7 (now (t .entry)) i (blockRow n k j (record { body = now (line .entry); ended = true })) ⌝ }
-{
-    let mut row: [u64; 7] = [0; 7];
-    fill_row(line, k, n, j, &mut row);
-    tables::put_row(t, 7, i, &row);
-}
-
-// The rows of a block of `k` lines and `n` stops that was found whole, from row `start` on. What stands before and behind them is kept.
-pub fn write_block(block: &[u8], k: u64, n: u64, t: &mut [u64], start: usize)
-    requires { ⌜ Placeable (now block) (now t) k n start ⌝ }
-    ensures { λ _. ⌜ now (t .exit) ≡ take (start * 7) (now (t .entry)) ++ (joined (blockRows (asBlock (now (block .entry)))) ++ drop ((start + k) * 7) (now (t .entry))) ⌝ }
-{
-    let mut at: usize = 0;
-    let mut done: usize = 0;
-    while at < block.len() {
-        let number = done + 1;
-        let span = text::line_at(block, at);
-        let end = span.end;
-        put_line(&block[at..end], k, n, number as u64, t, start + done);
-        at = span.next;
-        done = number;
-    }
-}
-
-// Blocks.
+// BLOCKS
 
 // Where the block that begins at `from` ends: at the next line beginning `#`, or at the text's end.
 fn next_head(text: &[u8], from: usize) -> usize
@@ -91,6 +47,7 @@ fn next_head(text: &[u8], from: usize) -> usize
 // A block's service must be new to those before it, whose rows the table holds.
 fn test_block(
     block: &[u8],
+    form: iff::Form,
     run: keys::KeyRun,
     marks: &[u8],
     t: &[u64],
@@ -101,13 +58,16 @@ fn test_block(
     footnotes: &[u64],
     places: &[u32],
 ) -> blocks::Checked
-    requires { ⌜ (run ≡ runOf (keysIn Timetbls (now t))) × Marked (now marks) (keysIn Timetbls (now t)) × (isHash (asBlock (now block) .top) ≡ true) ⌝ }
-    ensures { λ r. ⌜ BlockTested (now (block .entry)) (now (t .entry)) counts (now (companies .entry)) (now (modes .entry)) (now (stations .entry)) (now (footnotes .entry)) r ⌝ }
+    requires { ⌜ (run ≡ runOf (keysIn Timetbls (now t))) × Marked (now marks) (keysIn Timetbls (now t))
+        × (isHash (asBlock (now block) .top) ≡ true) ⌝ }
+    ensures { λ r. ⌜ BlockTested form (now (block .entry)) (now (t .entry)) counts
+        (now (companies .entry)) (now (modes .entry)) (now (stations .entry)) (now (footnotes .entry)) r ⌝ }
 {
     let service = blocks::service_of(block);
     let fresh = keys::is_fresh_service(marks, run, t, service);
     blocks::check_block(
         block,
+        form,
         fresh,
         counts,
         companies,
@@ -121,7 +81,7 @@ fn test_block(
 // What is remembered of the services with this block's, which is marked.
 fn after_block(run: keys::KeyRun, marks: &mut [u8], block: &[u8]) -> keys::KeyRun
     requires { ⌜ length (now marks) ≡ slots ⌝ }
-    ensures { λ r. ⌜ Remembered run (now (marks .entry)) (serviceOf (asBlock (now (block .entry)))) (now (marks .exit)) r ⌝ }
+    ensures { λ r. ⌜ ((form : Form) → Remembered run (now (marks .entry)) (serviceOf form (asBlock (now (block .entry)))) (now (marks .exit)) r) ⌝ }
 {
     let service = blocks::service_of(block);
     keys::mark(marks, service);
@@ -131,6 +91,7 @@ fn after_block(run: keys::KeyRun, marks: &mut [u8], block: &[u8]) -> keys::KeyRu
 // One block: checked, and then written behind the `row` rows that the table holds.
 fn add_block(
     block: &[u8],
+    form: iff::Form,
     run: keys::KeyRun,
     marks: &mut [u8],
     row: usize,
@@ -141,12 +102,14 @@ fn add_block(
     stations: &[u64],
     footnotes: &[u64],
     places: &[u32],
-) -> Added
+) -> BlockPut
     requires { ⌜ Addable (now block) (now t) (now marks) run row ⌝ }
-    ensures { λ r. ⌜ BlockAdded (now (block .entry)) (now (t .entry)) (now (t .exit)) (now (marks .exit)) counts (now (companies .entry)) (now (modes .entry)) (now (stations .entry)) (now (footnotes .entry)) r ⌝ }
+    ensures { λ r. ⌜ BlockAdded form (now (block .entry)) (now (t .entry)) (now (t .exit)) (now (marks .exit)) counts
+        (now (companies .entry)) (now (modes .entry)) (now (stations .entry)) (now (footnotes .entry)) r ⌝ }
 {
     match test_block(
         block,
+        form,
         run,
         marks,
         t,
@@ -157,11 +120,11 @@ fn add_block(
         footnotes,
         places,
     ) {
-        blocks::Checked::Broken(why, line) => Added::Faulty(why, line),
+        blocks::Checked::Broken(why, line) => BlockPut::Faulty(why, line),
         blocks::Checked::Whole(k, n) => {
-            write_block(block, k, n, t, row);
+            block_rows::write_block(block, form, k, n, t, row);
             let next = row + k as usize;
-            Added::Kept(after_block(run, marks, block), next)
+            BlockPut::Kept(after_block(run, marks, block), next)
         }
     }
 }
@@ -170,6 +133,7 @@ fn add_block(
 fn add_blocks(
     text: &[u8],
     from: usize,
+    form: iff::Form,
     marks: &mut [u8],
     t: &mut [u64],
     counts: references::BlockCounts,
@@ -180,7 +144,8 @@ fn add_blocks(
     places: &[u32],
 ) -> reading::RowsRead
     requires { ⌜ BlocksReady (now text) from (now t) (now marks) ⌝ }
-    ensures { λ r. ⌜ BlocksAdded (now (text .entry)) from counts (now (companies .entry)) (now (modes .entry)) (now (stations .entry)) (now (footnotes .entry)) (now (t .entry)) (now (t .exit)) r ⌝ }
+    ensures { λ r. ⌜ BlocksAdded form (now (text .entry)) from counts
+        (now (companies .entry)) (now (modes .entry)) (now (stations .entry)) (now (footnotes .entry)) (now (t .entry)) (now (t .exit)) r ⌝ }
 {
     let mut at = from;
     let mut row: usize = 1;
@@ -191,6 +156,7 @@ fn add_blocks(
         let next = next_head(text, at);
         match add_block(
             &text[at..next],
+            form,
             run,
             marks,
             row,
@@ -202,11 +168,11 @@ fn add_blocks(
             footnotes,
             places,
         ) {
-            Added::Faulty(why, line) => {
+            BlockPut::Faulty(why, line) => {
                 let place = iff::Place::At(iff::File::Timetbls, ordinal, line);
                 return reading::RowsRead::Stopped(why, place);
             }
-            Added::Kept(with, behind) => {
+            BlockPut::Kept(with, behind) => {
                 at = next;
                 row = behind;
                 done = ordinal;
@@ -231,18 +197,19 @@ fn stray_test(text: &[u8], from: usize) -> iff::Test
     if letter == b'#' {
         return iff::Test::Passes;
     }
-    if order::is_known(iff::File::Timetbls, letter) {
+    if order::is_known_in_block(letter) {
         return iff::Test::Fails(iff::Reason::Order);
     }
     iff::Test::Fails(iff::Reason::Layout)
 }
 
 // The lines after the first, which begin at `from`, into a table that holds the first line's row. A stray line is line 2 of block 0.
-// The places of stations and footnotes are found once, since nearly every line names one. They share 16381 first slots, which is a prime number, and eight
-// more for those that the last of these are too few for.
+// The places of stations and footnotes are found once, since nearly every line names one. They share 16381 first slots, which is a prime
+// number, and eight more for those that the last of these are too few for.
 pub fn read_blocks(
     text: &[u8],
     from: usize,
+    form: iff::Form,
     t: &mut [u64],
     companies: &[u64],
     modes: &[u64],
@@ -250,7 +217,8 @@ pub fn read_blocks(
     footnotes: &[u64],
 ) -> reading::RowsRead
     requires { ⌜ AfterFirst (now text) from (now t) ⌝ }
-    ensures { λ r. ⌜ BlocksRead (now (text .entry)) from (now (companies .entry)) (now (modes .entry)) (now (stations .entry)) (now (footnotes .entry)) (now (t .entry)) (now (t .exit)) r ⌝ }
+    ensures { λ r. ⌜ BlocksRead form (now (text .entry)) from
+        (now (companies .entry)) (now (modes .entry)) (now (stations .entry)) (now (footnotes .entry)) (now (t .entry)) (now (t .exit)) r ⌝ }
 {
     match stray_test(text, from) {
         iff::Test::Fails(why) => {
@@ -260,9 +228,14 @@ pub fn read_blocks(
         iff::Test::Passes => {
             let counts = references::count_for_blocks(companies, modes, stations, footnotes);
             let mut places = [0u32; 16389];
-            keys::index_rows(iff::File::Stations, stations, counts.stations, &mut places);
             keys::index_rows(
-                iff::File::Footnote,
+                iff::File::Rows(iff::RowFile::Stations),
+                stations,
+                counts.stations,
+                &mut places,
+            );
+            keys::index_rows(
+                iff::File::Groups(iff::GroupFile::Footnote),
                 footnotes,
                 counts.footnotes,
                 &mut places,
@@ -271,6 +244,7 @@ pub fn read_blocks(
             add_blocks(
                 text,
                 from,
+                form,
                 &mut marks,
                 t,
                 counts,
@@ -287,7 +261,7 @@ pub fn read_blocks(
 // The whole of TIMETBLS, after a verdict on what came before it: a fault is handed on, and an absent file has none.
 pub fn read_timetbls(
     v: iff::Verdict,
-    days: usize,
+    form: iff::Form,
     text: &[u8],
     header: &[u8],
     t: &mut [u64],
@@ -297,7 +271,9 @@ pub fn read_timetbls(
     footnotes: &[u64],
 ) -> iff::Verdict
     requires { ⌜ (fine v ≡ true → Ready Timetbls (now text) (now t)) ⌝ }
-    ensures { λ r. ⌜ FileRead Timetbls days (λ c. BlockKeys c (now (companies .entry)) (now (modes .entry)) (now (stations .entry)) (now (footnotes .entry))) (now (header .entry)) (now (text .entry)) v (now (t .entry)) (now (t .exit)) r ⌝ }
+    ensures { λ r. ⌜ FileRead Timetbls form
+        (λ c. BlockKeys c (now (companies .entry)) (now (modes .entry)) (now (stations .entry)) (now (footnotes .entry)))
+        (now (header .entry)) (now (text .entry)) v (now (t .entry)) (now (t .exit)) r ⌝ }
 {
     match v {
         iff::Verdict::Fault(r, p) => iff::Verdict::Fault(r, p),
@@ -311,7 +287,7 @@ pub fn read_timetbls(
                     iff::Place::At(iff::File::Timetbls, 0, 1),
                 ),
                 reading::Begin::Rest(from) => {
-                    match read_blocks(text, from, t, companies, modes, stations, footnotes) {
+                    match read_blocks(text, from, form, t, companies, modes, stations, footnotes) {
                         reading::RowsRead::Stopped(r, p) => iff::Verdict::Fault(r, p),
                         reading::RowsRead::AllRead(rises) => {
                             heads::set_rises(t, rises);

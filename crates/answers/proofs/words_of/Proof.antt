@@ -7,7 +7,12 @@ returns : tie.Need-returns
 returns c = rw (c .before .answer .given .1)
 
 returns-2 : tie.Need-returns-2
-returns-2 c = rw (c .before .before .before .before .before .answer2 .given .1, c .before .before .before .number-of .ensures, c .before .before .file-of .ensures, c .before .ordinal-of .ensures, c .line-of .ensures)
+returns-2 c =
+    let ordinal = c .before in
+    let file = ordinal .before in
+    let number = file .before in
+    rw (number .before .before .answer2 .given .1, number .number-of .ensures)
+    (rw (file .file-of .ensures, ordinal .ordinal-of .ensures, c .line-of .ensures))
 
 pub words-of-spec : {M : Type 1} → statement M
 words-of-spec =

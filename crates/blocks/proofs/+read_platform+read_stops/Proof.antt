@@ -52,11 +52,11 @@ abbrev of-read-stops : ℕ → read-stops-lts.Claims
 of-read-stops t = (read-platform-below t, read-platform.Post, line-at-reads.Asked, line-at-reads.Learnt)
 
 abbrev Inv-loop : read-stops-lts.InvT-loop
-Inv-loop block from before fresh counts companies modes stations footnotes places at₀ done₀ st₀ at done st =
-    Reading (keysFrom counts companies modes stations footnotes) fresh block at₀ st₀ done₀ at st done
+Inv-loop block from before form fresh counts companies modes stations footnotes places at₀ done₀ st₀ at done st =
+    Reading (keysFrom form counts companies modes stations footnotes) fresh block at₀ st₀ done₀ at st done
 
 abbrev μ-loop : read-stops-lts.MeasureT-loop
-μ-loop block from before fresh counts companies modes stations footnotes places at₀ done₀ st₀ at done st = length block - at
+μ-loop block from before form fresh counts companies modes stations footnotes places at₀ done₀ st₀ at done st = length block - at
 
 pub +read-platform+read-stops-spec : {M : Type 1} → statement M
 +read-platform+read-stops-spec = close μ-read-platform μ-read-stops (λ t. read-platform-lts.spec (of-read-platform t)
@@ -66,13 +66,16 @@ pub +read-platform+read-stops-spec : {M : Type 1} → statement M
     (λ c κs. let s = c .before .before .before .before .before .before in (s .pre .1 .0, s .pre .1 .1 .few))
     (λ c. search needs)
     (λ c. search needs)
-    (λ c κs. let s = c .before .before .before .before .before .before .before .before .before .before in
-    let r = goes-on _ _ _ _ _ _ _ _ _ (starts _ _ _ _ _ _ (s .pre .1 .1)) _ (c .before .before .before .line-at .ensures) _ _ (c .before .next .given .1) in
-    (omega (arith, s .pre, c .before .before .before .line-at .ensures .past _ _ (c .before .next .given .1)), r .here))
-    (λ c. let s = c .before .before .before .before .before .before .before .before .before .before in
-    held _ _ _ _ _ _ _ _ _ (starts _ _ _ _ _ _ (s .pre .1 .1)) _ (c .before .before .before .line-at .ensures) _ (c .before .why .given .1))
-    (λ c. let s = c .before .before .before .before .before .before .before .before .before .before .before in
-    let r = goes-on _ _ _ _ _ _ _ _ _ (starts _ _ _ _ _ _ (s .pre .1 .1)) _ (c .before .before .before .before .line-at .ensures) _ _ (c .before .before .next .given .1) in
+    (λ c κs. let l = c .before .before .before in
+    let s = l .before .before .before .before .before .before .before in
+    let r = goes-on _ _ _ _ _ _ _ _ _ (starts _ _ _ _ _ _ (s .pre .1 .1)) _ (l .line-at .ensures) _ _ (c .before .next .given .1) in
+    (omega (arith, s .pre, l .line-at .ensures .past _ _ (c .before .next .given .1)), r .here))
+    (λ c. let l = c .before .before .before in
+    let s = l .before .before .before .before .before .before .before in
+    held _ _ _ _ _ _ _ _ _ (starts _ _ _ _ _ _ (s .pre .1 .1)) _ (l .line-at .ensures) _ (c .before .why .given .1))
+    (λ c. let l = c .before .before .before .before in
+    let s = l .before .before .before .before .before .before .before in
+    let r = goes-on _ _ _ _ _ _ _ _ _ (starts _ _ _ _ _ _ (s .pre .1 .1)) _ (l .line-at .ensures) _ _ (c .before .before .next .given .1) in
     c .read-stops .ensures ∙ sym (r .left)))
     λ t. read-stops-lts.spec (of-read-stops t)
     (read-stops-at t)
@@ -87,8 +90,10 @@ pub +read-platform+read-stops-spec : {M : Type 1} → statement M
     (λ c. c .read-platform .ensures ∙ sym (c .before .before .before .before .loop .inv .left))
     (λ c κs. (c .before .before .loop-test .taken, c .before .before .before .loop .inv .here .few))
     (λ c. search needs)
-    (λ c. held _ _ _ _ _ _ _ _ _ (c .before .before .before .before .before .before .before .loop .inv) _ (c .before .before .before .line-at .ensures) _ (c .before .why .given .1))
+    (λ c. let l = c .before .before .before in
+    held _ _ _ _ _ _ _ _ _ (l .before .before .before .before .loop .inv) _ (l .line-at .ensures) _ (c .before .why .given .1))
     (λ c. search needs)
     (λ c. omega (arith, c .before .before .before .line-at .ensures .past _ _ (c .before .next .given .1)))
-    (λ c. goes-on _ _ _ _ _ _ _ _ _ (c .before .before .before .before .before .before .before .loop .inv) _ (c .before .before .before .line-at .ensures) _ _ (c .before .next .given .1))
+    (λ c. let l = c .before .before .before in
+    goes-on _ _ _ _ _ _ _ _ _ (l .before .before .before .before .loop .inv) _ (l .line-at .ensures) _ _ (c .before .next .given .1))
     (λ c. ends _ _ _ _ _ _ _ _ _ (c .before .loop .inv) (c .loop-test .left))

@@ -16,10 +16,13 @@ pub check-block-spec : {M : Type 1} → statement M
 check-block-spec =
     tie.close
     (tie.spec
-    (λ c. empty-checked _ _ _ _ _ _ _ (c .if1 .taken))
+    (λ c. empty-checked _ _ _ _ _ _ _ _ (c .if1 .taken))
     (λ c κs. search needs)
     (λ c. search needs)
     (λ c. search needs)
-    (λ c κs. lines-read _ _ _ _ _ _ _ (some (c .before .before .before .before)) _ _ (sym (c .before .before .before .read-stops .ensures) ∙ c .before .st .given .1))
-    (λ c. held-checked _ _ _ _ _ _ _ (some (c .before .before .before .before)) _ _ (sym (c .before .before .before .read-stops .ensures) ∙ c .before .why .given .1))
-    (λ c. last-checked _ _ _ _ _ _ _ (some (c .before .before .before .before .before)) _ _ (sym (c .before .before .before .before .read-stops .ensures) ∙ c .before .before .st .given .1) _ (c .last-tests .ensures)))
+    (λ c κs. let r = c .before .before .before in
+    lines-read _ _ _ _ _ _ _ _ (some (r .before)) _ _ (sym (r .read-stops .ensures) ∙ c .before .st .given .1))
+    (λ c. let r = c .before .before .before in
+    held-checked _ _ _ _ _ _ _ _ (some (r .before)) _ _ (sym (r .read-stops .ensures) ∙ c .before .why .given .1))
+    (λ c. let r = c .before .before .before .before in
+    last-checked _ _ _ _ _ _ _ _ (some (r .before)) _ _ (sym (r .read-stops .ensures) ∙ c .before .before .st .given .1) _ (c .last-tests .ensures)))

@@ -14,6 +14,8 @@ last-tests-spec =
     (tie.spec
     (λ c κs. search needs)
     (λ c. rw (sym (c .before .is-finished .ensures) ∙ not-true _ (c .if1 .taken)))
-    (λ c κs. legs-read _ _ _ (c .before .before .before .pre))
-    (λ c. rw (sym (c .before .before .before .is-finished .ensures) ∙ not-false _ (c .before .before .if1 .left), sym (c .before .are-right .ensures) ∙ not-true _ (c .if2 .taken)))
-    (λ c. rw (sym (c .before .before .before .is-finished .ensures) ∙ not-false _ (c .before .before .if1 .left), sym (c .before .are-right .ensures) ∙ not-false _ (c .if2 .left))))
+    (λ c κs. legs-read _ _ _ _ (c .before .before .before .pre))
+    (λ c. let f = c .before .before in
+    rw (sym (f .before .is-finished .ensures) ∙ not-false _ (f .if1 .left), sym (c .before .are-right .ensures) ∙ not-true _ (c .if2 .taken)))
+    (λ c. let f = c .before .before in
+    rw (sym (f .before .is-finished .ensures) ∙ not-false _ (f .if1 .left), sym (c .before .are-right .ensures) ∙ not-false _ (c .if2 .left))))

@@ -11,16 +11,20 @@ row-test-spec =
     tie.close
     (tie.spec
     (λ c κs. search needs)
-    (λ c. bad-value _ _ _ _ (sym (c .before .row-means .ensures) ∙ not-true _ (c .if1 .taken)))
+    (λ c form. bad-value _ _ _ _ (sym (c .before .block-means .ensures) ∙ not-true _ (c .if1 .taken)))
     (λ c. search needs)
     (λ c κs. search needs)
-    (λ c. not-new _ _ _ _ (sym (c .before .before .before .before .row-means .ensures) ∙ not-false _ (c .before .before .before .if1 .left)) (sym (c .before .is-new .ensures) ∙ not-true _ (c .if2 .taken)))
+    (λ c form. let n = c .before in
+    let m = n .before .before in
+    not-new _ _ _ _ (sym (m .before .block-means .ensures) ∙ not-false _ (m .if1 .left)) (sym (n .is-new .ensures) ∙ not-true _ (c .if2 .taken)))
     (λ c κs. search needs)
-    (λ c. not-met _ _ _ _
-    (sym (c .before .before .before .before .before .before .row-means .ensures) ∙ not-false _ (c .before .before .before .before .before .if1 .left))
-    (sym (c .before .before .before .is-new .ensures) ∙ not-false _ (c .before .before .if2 .left))
-    (sym (c .before .met-in-block .ensures _ (keys-agree _ _ _ _ _)) ∙ not-true _ (c .if3 .taken)))
-    (λ c. row-passes _ _ _ _
-    (sym (c .before .before .before .before .before .before .row-means .ensures) ∙ not-false _ (c .before .before .before .before .before .if1 .left))
-    (sym (c .before .before .before .is-new .ensures) ∙ not-false _ (c .before .before .if2 .left))
-    (sym (c .before .met-in-block .ensures _ (keys-agree _ _ _ _ _)) ∙ not-false _ (c .if3 .left))))
+    (λ c form. let n = c .before .before .before in
+    let m = n .before .before in
+    not-met _ _ _ _ (sym (m .before .block-means .ensures) ∙ not-false _ (m .if1 .left))
+    (sym (n .is-new .ensures) ∙ not-false _ (c .before .before .if2 .left))
+    (sym (c .before .met-in-block .ensures _ (keys-agree form _ _ _ _ _)) ∙ not-true _ (c .if3 .taken)))
+    (λ c form. let n = c .before .before .before in
+    let m = n .before .before in
+    row-passes _ _ _ _ (sym (m .before .block-means .ensures) ∙ not-false _ (m .if1 .left))
+    (sym (n .is-new .ensures) ∙ not-false _ (c .before .before .if2 .left))
+    (sym (c .before .met-in-block .ensures _ (keys-agree form _ _ _ _ _)) ∙ not-false _ (c .if3 .left))))

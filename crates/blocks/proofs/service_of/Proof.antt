@@ -18,5 +18,7 @@ service-of-spec =
     (λ c κs. search needs)
     (λ c. search needs)
     (λ c κs. search needs)
-    (λ c. service-ended _ _ (sym (c .before .before .before .before .before .line-end .ensures) ∙ c .before .before .before .e .given .1) _ (c .head-word .ensures))
-    (λ c. service-unended _ (sym (c .before .before .before .line-end .ensures) ∙ c .before .enum-told .given .1) _ (c .head-word2 .ensures)))
+    (λ c form. let e = c .before .before .before in
+    service-ended form _ _ (sym (e .before .before .line-end .ensures) ∙ e .e .given .1) _ (c .head-word .ensures form))
+    (λ c form. let e = c .before in
+    service-unended form _ (sym (e .before .before .line-end .ensures) ∙ e .enum-told .given .1) _ (c .head-word2 .ensures form)))

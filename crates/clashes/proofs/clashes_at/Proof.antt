@@ -1,6 +1,6 @@
 -- `clashes_at` meets its contract: the part that is handed on is row i. Assumes nothing.
 use borrow.Author.Needs.{needs}
-use Rattle.clashes.proofs.Alike.{part-row}
+use Rattle.clashes.proofs.Parts.{part-row}
 use Rattle.clashes.proofs.clashes_at.Statement.{statement}
 use Rattle.clashes.proofs.clashes_at.Tie as tie
 

@@ -5,6 +5,7 @@ use mathlib.Core.Bool.{not}
 use borrow.Author.Needs.{needs}
 use Rattle.iff.specs.Lists.{any}
 use Rattle.iff.specs.Tables.{rowWidth}
+use Rattle.iff.specs.declared.File.the-variants.{Groups}
 use Rattle.iff_rules.specs.Unique.{clash}
 use Rattle.tables.proofs.Rows.{row-inside}
 use Rattle.keys.specs.Blocks.{rowsBetween}
@@ -13,7 +14,9 @@ use Rattle.clashes.proofs.fresh_in_group.Statement.{statement}
 use Rattle.clashes.proofs.fresh_in_group.Tie as tie
 
 abbrev Inv-loop : tie.InvT-loop
-Inv-loop file t from to row w i₀ i = (w ≡ rowWidth file) × (any (clash file row) (rowsBetween (rowWidth file) t from to) ≡ any (clash file row) (rowsBetween w t i to))
+Inv-loop file t from to row w i₀ i =
+    (w ≡ rowWidth (Groups file))
+    × (any (clash file row) (rowsBetween (rowWidth (Groups file)) t from to) ≡ any (clash file row) (rowsBetween w t i to))
 
 abbrev μ-loop : tie.MeasureT-loop
 μ-loop file t from to row w i₀ i = to - i
@@ -29,20 +32,30 @@ clashes-at-requires c κs =
 
 returns : tie.Need-returns Inv-loop μ-loop
 returns c =
-    let a = c .before .before .before .before .before .before .before .args in
-    let l = c .before .before .before in
-    ap not (sym (l .loop .inv .1 ∙ one-here (clash (a .file) (a .row .now)) _ (a .t .now) (a .to) (l .loop .i) (c .before .before .loop-test .taken) _ (c .before .clashes-at .ensures) (c .if1 .taken)))
+    let t = c .before .before in
+    let l = t .before in
+    let a = l .before .before .before .before .args in
+    ap not
+    (sym
+    (l .loop .inv .1
+    ∙ one-here (clash (a .file) (a .row .now)) _ (a .t .now) (a .to) (l .loop .i) (t .loop-test .taken) _
+    (c .before .clashes-at .ensures) (c .if1 .taken)))
 
 loop-again : tie.Need-loop-again Inv-loop μ-loop
 loop-again c =
-    let a = c .before .before .before .before .before .before .before .args in
-    let l = c .before .before .before in
-    (l .loop .inv .0, l .loop .inv .1 ∙ one-on (clash (a .file) (a .row .now)) _ (a .t .now) (a .to) (l .loop .i) (c .before .before .loop-test .taken) _ (c .before .clashes-at .ensures) (c .if1 .left))
+    let t = c .before .before in
+    let l = t .before in
+    let a = l .before .before .before .before .args in (
+      l .loop .inv .0,
+      l .loop .inv .1
+          ∙ one-on (clash (a .file) (a .row .now)) _ (a .t .now) (a .to) (l .loop .i) (t .loop-test .taken) _
+          (c .before .clashes-at .ensures) (c .if1 .left),
+    )
 
 returns-2 : tie.Need-returns-2 Inv-loop μ-loop
 returns-2 c =
-    let a = c .before .before .before .before .before .args in
     let l = c .before in
+    let a = l .before .before .before .before .args in
     ap not (sym (l .loop .inv .1 ∙ none-left (clash (a .file) (a .row .now)) _ (a .t .now) (a .to) (l .loop .i) (c .loop-test .left)))
 
 pub fresh-in-group-spec : {M : Type 1} → statement M

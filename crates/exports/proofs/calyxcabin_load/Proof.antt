@@ -7,7 +7,9 @@ use Rattle.exports.proofs.calyxcabin_load.Tie as tie
 
 -- the place after the load, from the end
 abbrev at-load : tie.After-words-of → tie.After-load
-at-load c = c .before .before .before .before .before .before .before .before .before .before .before .before .before .before .before .before .before .before .before .before .before .before .before
+at-load c =
+    c .before .before .before .before .before .before .before .before .before .before .before .before .before .before .before .before .before .before
+    .before .before .before .before .before
 
 returns : tie.Need-returns
 returns c =

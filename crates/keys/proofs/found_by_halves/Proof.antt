@@ -1,10 +1,9 @@
 -- `found_by_halves` meets its contract: the row that is found was tested, and is one of the first rows. Assumes nothing.
 use Prim.Native.Nat.{_-_, _≤_, _<_}
-use mathlib.Core.Bool.{false≢true}
 use borrow.Author.Needs.{needs}
 use native.Mathlib.Omega.{arith}
 use Rattle.keys.proofs.Lookup.{key-column}
-use Rattle.keys.proofs.Among.{row-among, hit-among}
+use Rattle.keys.proofs.Among.{row-among, row-hit, hit-none}
 use Rattle.keys.proofs.found_by_halves.Statement.{statement}
 use Rattle.keys.proofs.found_by_halves.Tie as tie
 
@@ -17,24 +16,31 @@ abbrev μ-loop : tie.MeasureT-loop
 head-row-requires : tie.Need-head-row-requires Inv-loop μ-loop
 head-row-requires c κs =
     let n = c .before .before in
-    let s = n .before .before .before .before .before in
-    (omega arith, rw (← n .before .before .before .row-width .ensures .is) (row-among _ (s .args .used) _ _ (n .rows-among .ensures) _ (omega arith)))
+    let s = n .before .before .before .before .before in (
+      omega arith,
+      rw (← n .before .before .before .row-width .ensures .is) (row-among _ (s .args .used) _ _ (n .rows-among .ensures) _ (omega arith)),
+    )
 
 -- the row that is tested is one of the first
 keyed-at-requires : tie.Need-keyed-at-requires Inv-loop μ-loop
 keyed-at-requires c κs =
     let n = c .before .before .before in
-    let s = n .before .before .before .before .before in
-    (key-column (s .args .file) _ _ _ (n .before .before .before .row-width .ensures .is) (n .before .before .key-tag .ensures) (n .before .key-word .ensures), row-among _ (s .args .used) _ _ (n .rows-among .ensures) _ (omega arith))
+    let m = n .before in
+    let s = m .before .before .before .before in (
+      key-column (s .args .file) _ _ _ (m .before .before .row-width .ensures .is) (m .before .key-tag .ensures) (m .key-word .ensures),
+      row-among _ (s .args .used) _ _ (n .rows-among .ensures) _ (omega arith),
+    )
 
 word-at-requires : tie.Need-word-at-requires Inv-loop μ-loop
 word-at-requires c κs = keyed-at-requires (c .before .before) κs
 
 returns : tie.Need-returns Inv-loop μ-loop
-returns c e =
+returns c =
     let n = c .before .before .before .before .before in
-    let a = n .before .before .before .before .before .args in
-    hit-among (a .file) _ _ _ (n .before .before .before .row-width .ensures .is) (n .before .before .key-tag .ensures) (n .before .key-word .ensures) (a .t .now) (a .used) (a .key) _ (n .rows-among .ensures) _ (omega arith) _ (c .before .keyed-at .ensures) (c .if1 .taken)
+    let m = n .before in
+    let a = m .before .before .before .before .args in
+    row-hit (a .file) _ _ _ (m .before .before .row-width .ensures .is) (m .before .key-tag .ensures) (m .key-word .ensures) (a .t .now) (a .used)
+    (a .key) _ (n .rows-among .ensures) _ (omega arith) _ (c .before .keyed-at .ensures) (c .if1 .taken)
 
 pub found-by-halves-spec : {M : Type 1} → statement M
 found-by-halves-spec =
@@ -58,4 +64,4 @@ found-by-halves-spec =
     (λ c. (omega arith, omega arith))
     (λ c. search needs)
     (λ c. (omega arith, omega arith))
-    (λ c e. absurd (false≢true e)))
+    (λ c. hit-none _ _ _ _))

@@ -1,10 +1,9 @@
 -- `found_by_place` meets its contract: the row that is found was tested, and is one of the first rows. Assumes nothing.
 use Prim.Native.Nat.{_-_}
-use mathlib.Core.Bool.{false≢true}
 use native.Mathlib.Omega.{arith}
 use borrow.Author.Needs.{needs}
 use Rattle.keys.proofs.Lookup.{key-column}
-use Rattle.keys.proofs.Among.{row-among, hit-among}
+use Rattle.keys.proofs.Among.{row-among, row-hit, hit-none}
 use Rattle.keys.proofs.found_by_place.Statement.{statement}
 use Rattle.keys.proofs.found_by_place.Tie as tie
 
@@ -17,14 +16,20 @@ abbrev μ-loop : tie.MeasureT-loop
 keyed-at-requires : tie.Need-keyed-at-requires Inv-loop μ-loop
 keyed-at-requires c κs =
     let n = c .before .before .before .before .before .before .before in
-    let s = n .before .before .before .before .before .before .before in
-    (key-column (s .args .file) _ _ _ (n .before .before .before .row-width .ensures .is) (n .before .before .key-tag .ensures) (n .before .key-word .ensures), row-among _ (s .args .used) _ _ (n .rows-among .ensures) _ (c .if3 .taken))
+    let m = n .before in
+    let s = m .before .before .before .before .before .before in (
+      key-column (s .args .file) _ _ _ (m .before .before .row-width .ensures .is) (m .before .key-tag .ensures) (m .key-word .ensures),
+      row-among _ (s .args .used) _ _ (n .rows-among .ensures) _ (c .if3 .taken),
+    )
 
 returns-3 : tie.Need-returns-3 Inv-loop μ-loop
-returns-3 c e =
-    let n = c .before .before .before .before .before .before .before .before .before in
-    let a = n .before .before .before .before .before .before .before .args in
-    hit-among (a .file) _ _ _ (n .before .before .before .row-width .ensures .is) (n .before .before .key-tag .ensures) (n .before .key-word .ensures) (a .t .now) (a .used) (a .key) _ (n .rows-among .ensures) _ (c .before .before .if3 .taken) _ (c .before .keyed-at .ensures) (c .if4 .taken)
+returns-3 c =
+    let i = c .before .before in
+    let n = i .before .before .before .before .before .before .before in
+    let m = n .before in
+    let a = m .before .before .before .before .before .before .args in
+    row-hit (a .file) _ _ _ (m .before .before .row-width .ensures .is) (m .before .key-tag .ensures) (m .key-word .ensures) (a .t .now) (a .used)
+    (a .key) _ (n .rows-among .ensures) _ (i .if3 .taken) _ (c .before .keyed-at .ensures) (c .if4 .taken)
 
 pub found-by-place-spec : {M : Type 1} → statement M
 found-by-place-spec =
@@ -32,7 +37,7 @@ found-by-place-spec =
     (tie.spec
     Inv-loop
     μ-loop
-    (λ c e. absurd (false≢true e))
+    (λ c. hit-none _ _ _ _)
     (λ c κs. search needs)
     (λ c κs. search needs)
     (λ c κs. search needs)
@@ -43,10 +48,10 @@ found-by-place-spec =
     (λ c. search needs)
     (λ c. omega arith)
     (λ c κs. search needs)
-    (λ c e. absurd (false≢true e))
+    (λ c. hit-none _ _ _ _)
     keyed-at-requires
     returns-3
     (λ c. omega arith)
     (λ c. omega arith)
     (λ c. search needs)
-    (λ c e. absurd (false≢true e)))
+    (λ c. hit-none _ _ _ _))

@@ -4,7 +4,7 @@ use Rattle.keys.proofs.head_row.Statement.{statement}
 use Rattle.keys.proofs.head_row.Tie as tie
 
 block-head-requires : tie.Need-block-head-requires
-block-head-requires c κs = rw (c .enum-told8 .given .1) at (c .before .before .before .pre .1)
+block-head-requires c κs = rw (c .enum-told3 .given .1) at (c .before .before .before .pre .1)
 
 pub head-row-spec : {M : Type 1} → statement M
 head-row-spec =
@@ -13,24 +13,9 @@ head-row-spec =
     (λ c. search needs)
     (λ c. search needs)
     (λ c. search needs)
-    (λ c. search needs)
-    (λ c. search needs)
-    (λ c. search needs)
-    (λ c. search needs)
     (λ c κs. search needs)
     (λ c. search needs)
     block-head-requires
-    (λ c. search needs)
-    (λ c. search needs)
-    (λ c κs. search needs)
-    (λ c. search needs)
-    (λ c. search needs)
-    (λ c. search needs)
-    (λ c. search needs)
-    (λ c. search needs)
-    (λ c. search needs)
-    (λ c. search needs)
-    (λ c. search needs)
     (λ c. search needs)
     (λ c. search needs)
     (λ c. search needs)

@@ -23,8 +23,11 @@ word-at-requires c κs =
 
 word-at-requires-2 : tie.Need-word-at-requires-2 Inv-loop μ-loop
 word-at-requires-2 c κs =
-    let n = c .before .before .before .before in
-    (key-column (n .before .before .before .before .before .before .args .file) _ _ _ (n .before .before .before .row-width .ensures .is) (n .before .before .key-tag .ensures) (n .before .key-word .ensures), word-at-requires (c .before .before) κs .1)
+    let m = c .before .before .before .before .before in
+    let s = m .before .before .before .before .before in (
+      key-column (s .args .file) _ _ _ (m .before .before .row-width .ensures .is) (m .before .key-tag .ensures) (m .key-word .ensures),
+      word-at-requires (c .before .before) κs .1,
+    )
 
 loop-again : tie.Need-loop-again Inv-loop μ-loop
 loop-again c = ⊎-elim (λ w. omega (arith, ap length (w .6), w .3 .ensures)) (λ w. omega (arith, ap length (w .1))) (c .if1 .came)

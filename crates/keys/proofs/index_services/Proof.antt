@@ -15,7 +15,9 @@ abbrev μ-loop : tie.MeasureT-loop
 μ-loop t used places₀ rows i₀ places i = rows - i
 
 word-at-requires : tie.Need-word-at-requires Inv-loop μ-loop
-word-at-requires c κs = (omega arith, row-among _ (c .before .before .before .before .before .args .used) _ _ (c .before .before .rows-among .ensures) _ (c .loop-test .taken))
+word-at-requires c κs =
+    let n = c .before .before in
+    (omega arith, row-among _ (n .before .before .before .args .used) _ _ (n .rows-among .ensures) _ (c .loop-test .taken))
 
 next-block-requires : tie.Need-next-block-requires Inv-loop μ-loop
 next-block-requires c κs =

@@ -9,13 +9,19 @@ use Rattle.keys.proofs.is_fresh_service.Tie as tie
 
 returns : tie.Need-returns
 returns c =
-    let s = c .before .before .before .before .before in
-    unmarked (s .args .marks .now) (keysIn Timetbls (s .args .t .now)) (s .args .key) (slotOf (s .args .key)) (s .pre .1 .one (s .args .key)) (rw (← (c .before .before .slot .ensures)) (c .if1 .taken))
+    let k = c .before .before in
+    let s = k .before .before .before in
+    let a = s .args in
+    unmarked (a .marks .now) (keysIn Timetbls (a .t .now)) (a .key) (slotOf (a .key)) (s .pre .1 .one (a .key))
+    (rw (← (k .slot .ensures)) (c .if1 .taken))
 
 returns-2 : tie.Need-returns-2
 returns-2 c =
-    let s = c .before .before .before .before .before .before .before .before in
-    unmarked (s .args .marks .now) (keysIn Timetbls (s .args .t .now)) (s .args .key) (otherOf (s .args .key)) (s .pre .1 .other (s .args .key)) (rw (← (c .before .before .other-slot .ensures)) (c .if2 .taken))
+    let o = c .before .before in
+    let s = o .before .before .before .before .before .before in
+    let a = s .args in
+    unmarked (a .marks .now) (keysIn Timetbls (a .t .now)) (a .key) (otherOf (a .key)) (s .pre .1 .other (a .key))
+    (rw (← (o .other-slot .ensures)) (c .if2 .taken))
 
 pub is-fresh-service-spec : {M : Type 1} → statement M
 is-fresh-service-spec =

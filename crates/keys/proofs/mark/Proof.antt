@@ -6,7 +6,9 @@ use Rattle.keys.proofs.mark.Statement.{statement}
 use Rattle.keys.proofs.mark.Tie as tie
 
 slice-write-marks-2 : tie.Need-slice-write-marks-2
-slice-write-marks-2 c = omega (arith, c .other-slot .ensures, c .before .before .before .pre, length-set (c .before .before .before .args .marks .now) (c .before .slot .result) 1)
+slice-write-marks-2 c =
+    let s = c .before .before .before in
+    omega (arith, c .other-slot .ensures, s .pre, length-set (s .args .marks .now) (c .before .slot .result) 1)
 
 returns : tie.Need-returns
 returns c = rw (c .before .slot .ensures, c .other-slot .ensures)

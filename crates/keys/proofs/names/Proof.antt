@@ -11,8 +11,10 @@ has-key-requires c κs =
 
 returns : tie.Need-returns
 returns c =
-    let a = c .before .before .before .before .before .args in
-    named (a .file) _ _ _ (c .before .before .before .row-width .ensures .is) (c .before .before .key-tag .ensures) (c .before .key-word .ensures) (a .t .now) (a .key) _ (c .has-key .ensures)
+    let m = c .before in
+    let a = m .before .before .before .before .args in
+    named (a .file) _ _ _ (m .before .before .row-width .ensures .is) (m .before .key-tag .ensures) (m .key-word .ensures) (a .t .now) (a .key) _
+    (c .has-key .ensures)
 
 pub names-spec : {M : Type 1} → statement M
 names-spec = tie.close (tie.spec (λ c κs. search needs) (λ c κs. search needs) (λ c κs. search needs) has-key-requires returns)

@@ -1,40 +1,43 @@
 -- `legs::are_in_range` meets its contract: what is left to ask is the whole. Assumes nothing.
 use Prim.Native.Nat.{_-_}
-use mathlib.Core.Path.{refl, sym, _∙_}
+use mathlib.Core.Path.{sym, _∙_}
 use borrow.Author.Needs.{needs}
 use borrow.Author.Tests.{not-true, not-false}
 use lib.ListN.{length}
-use Rattle.legs.proofs.LineLaws.{Ranging, legible-here, ranging-not, ranging-next, ranging-all}
+use Rattle.legs.proofs.LineLaws.{Ranging, ranging-first, legible-here, ranging-not, ranging-next, ranging-all}
 use Rattle.legs.proofs.are_in_range.Statement.{statement}
 use Rattle.legs.proofs.are_in_range.Tie as tie
 
 abbrev Inv-loop : tie.InvT-loop
-Inv-loop block n at₀ at = Ranging block n at
+Inv-loop block form n at₀ at = Ranging form block n at
 
 abbrev μ-loop : tie.MeasureT-loop
-μ-loop block n at₀ at = length block - at
+μ-loop block form n at₀ at = length block - at
 
-is-in-range-requires : tie.Need-is-in-range-requires Inv-loop μ-loop
-is-in-range-requires c κs =
+line-in-range-requires : tie.Need-line-in-range-requires Inv-loop μ-loop
+line-in-range-requires c κs =
     let t = c .before .before .before in
-    legible-here (t .before .before .args .block .now) (t .loop .at) _ (c .before .line-at .ensures) (t .loop .inv .1)
+    let a = t .before .before .args in
+    legible-here (a .form) (a .block .now) (t .loop .at) _ (c .before .line-at .ensures) (t .loop .inv .legibly)
 
 returns : tie.Need-returns Inv-loop μ-loop
 returns c =
     let l = c .before .before .before in
     let t = l .before .before in
-    ranging-not (t .before .before .args .block .now) (t .before .before .args .n) (t .loop .at) _ (l .line-at .ensures) (t .loop .inv)
-    (sym (c .before .is-in-range .ensures) ∙ not-true _ (c .if1 .taken))
+    let a = t .before .before .args in
+    ranging-not (a .form) (a .block .now) (a .n) (t .loop .at) _ (l .line-at .ensures) (t .loop .inv)
+    (sym (c .before .line-in-range .ensures) ∙ not-true _ (c .if1 .taken))
 
 loop-again : tie.Need-loop-again Inv-loop μ-loop
 loop-again c =
     let l = c .before .before .before in
     let t = l .before .before in
-    ranging-next (t .before .before .args .block .now) (t .before .before .args .n) (t .loop .at) _ (l .line-at .ensures) (t .loop .inv)
-    (sym (c .before .is-in-range .ensures) ∙ not-false _ (c .if1 .left))
+    let a = t .before .before .args in
+    ranging-next (a .form) (a .block .now) (a .n) (t .loop .at) _ (l .line-at .ensures) (t .loop .inv)
+    (sym (c .before .line-in-range .ensures) ∙ not-false _ (c .if1 .left))
 
 returns-2 : tie.Need-returns-2 Inv-loop μ-loop
-returns-2 c = ranging-all _ _ _ (c .loop-test .left) (c .before .loop .inv)
+returns-2 c = ranging-all _ _ _ _ (c .loop-test .left) (c .before .loop .inv)
 
 pub are-in-range-spec : {M : Type 1} → statement M
 are-in-range-spec =
@@ -42,12 +45,12 @@ are-in-range-spec =
     (tie.spec
     Inv-loop
     μ-loop
-    (λ c. (search needs, c .before .pre, refl))
+    (λ c. ranging-first _ _ _ (c .before .pre))
     (λ c κs. search needs)
     (λ c. search needs)
     (λ c. search needs)
     (λ c. search needs)
-    is-in-range-requires
+    line-in-range-requires
     returns
     (λ c. search needs)
     loop-again

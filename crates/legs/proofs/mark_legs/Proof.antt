@@ -16,7 +16,9 @@ abbrev μ-loop : tie.MeasureT-loop
 returns : tie.Need-returns Inv-loop μ-loop
 returns c =
     let t = c .before .before in
-    marked-twice _ _ _ _ _ (t .loop-test .taken) (c .if1 .taken) (t .before .loop .inv)
+    let w = t .before .loop in
+    let q = c .if1 .taken in
+    marked-twice _ (w .marks) _ _ (w .leg) (omega (arith, t .loop-test .taken)) (omega arith) (w .inv)
 
 loop-again : tie.Need-loop-again Inv-loop μ-loop
 loop-again c =
@@ -24,10 +26,11 @@ loop-again c =
     let w = t .before .loop in
     let a = t .before .before .args in
     let l : w .leg < length (w .marks) = omega arith in
-    marking-next (a .marks .now) (w .marks) (a .first) (a .last) (w .leg) (t .loop-test .taken) l (c .if1 .left) (w .inv)
+    marking-next (a .marks .now) (w .marks) (a .first) (a .last) (w .leg) (omega (arith, t .loop-test .taken)) l
+    (omega (arith, c .if1 .left)) (w .inv)
 
 returns-2 : tie.Need-returns-2 Inv-loop μ-loop
-returns-2 c = marked-all _ _ _ _ _ (c .loop-test .left) (c .before .loop .inv)
+returns-2 c = marked-all _ _ _ _ _ (omega (arith, c .loop-test .left)) (c .before .loop .inv)
 
 pub mark-legs-spec : {M : Type 1} → statement M
 mark-legs-spec =

@@ -1,12 +1,12 @@
 -- The head has no possibility; a pair's is 2 at most. Assumes nothing.
 use borrow.Author.Needs.{needs}
 use borrow.Author.Tests.{eq-eqb, ne-eqb}
-use Rattle.iff_rules.specs.Meaning.{meaning}
+use Rattle.iff_rules.specs.Meaning.{groupMeaning}
 use Rattle.meanings.proofs.pair_means.Statement.{statement}
 use Rattle.meanings.proofs.pair_means.Tie as tie
 
 pub pair-means-spec : {M : Type 1} → statement M
-unfolding meaning
+unfolding groupMeaning
 pair-means-spec =
     tie.close
     (tie.spec

@@ -1,12 +1,12 @@
 -- The head has no days; a period's are in turn. Assumes nothing.
 use borrow.Author.Needs.{needs}
 use borrow.Author.Tests.{eq-eqb, ne-eqb}
-use Rattle.iff_rules.specs.Meaning.{meaning}
+use Rattle.iff_rules.specs.Meaning.{groupMeaning}
 use Rattle.meanings.proofs.zone_means.Statement.{statement}
 use Rattle.meanings.proofs.zone_means.Tie as tie
 
 pub zone-means-spec : {M : Type 1} → statement M
-unfolding meaning
+unfolding groupMeaning
 zone-means-spec =
     tie.close
     (tie.spec

@@ -33,7 +33,11 @@ goes-spec =
     (λ c. rw (c .before .enum-told5 .given .1, c .match6 .keys1))
     (λ c. rw (c .before .enum-told5 .given .1, c .match6 .keys2))
     (λ c. rw (c .before .enum-told5 .given .1, c .match6 .keys3))
-    (λ c. rw (c .before .enum-told5 .given .1) (simp (ne-eqb _ _ (c .match6 .rest .0 .0 .1), ne-eqb _ _ (c .match6 .rest .0 .1), ne-eqb _ _ (c .match6 .rest .1))))
+    (λ c. rw (c .before .enum-told5 .given .1) (simp (
+      ne-eqb _ _ (c .match6 .rest .0 .0 .1),
+      ne-eqb _ _ (c .match6 .rest .0 .1),
+      ne-eqb _ _ (c .match6 .rest .1),
+    )))
     (λ c. rw (c .before .enum-told6 .given .1, c .match7 .keys1))
     (λ c. rw (c .before .enum-told6 .given .1, c .match7 .keys2))
     (λ c. rw (c .before .enum-told6 .given .1) (simp (ne-eqb _ _ (c .match7 .rest .0 .1), ne-eqb _ _ (c .match7 .rest .1))))
@@ -42,12 +46,23 @@ goes-spec =
     (λ c. rw (c .before .enum-told7 .given .1, c .match8 .keys3))
     (λ c. rw (c .before .enum-told7 .given .1, c .match8 .keys4))
     (λ c. rw (c .before .enum-told7 .given .1, c .match8 .keys5))
-    (λ c. rw (c .before .enum-told7 .given .1) (simp (ne-eqb _ _ (c .match8 .rest .0 .0 .0 .0 .1), ne-eqb _ _ (c .match8 .rest .0 .0 .0 .1), ne-eqb _ _ (c .match8 .rest .0 .0 .1), ne-eqb _ _ (c .match8 .rest .0 .1), ne-eqb _ _ (c .match8 .rest .1))))
+    (λ c. rw (c .before .enum-told7 .given .1) (simp (
+      ne-eqb _ _ (c .match8 .rest .0 .0 .0 .0 .1),
+      ne-eqb _ _ (c .match8 .rest .0 .0 .0 .1),
+      ne-eqb _ _ (c .match8 .rest .0 .0 .1),
+      ne-eqb _ _ (c .match8 .rest .0 .1),
+      ne-eqb _ _ (c .match8 .rest .1),
+    )))
     (λ c. rw (c .before .enum-told8 .given .1, c .match9 .keys1))
     (λ c. rw (c .before .enum-told8 .given .1, c .match9 .keys2))
     (λ c. rw (c .before .enum-told8 .given .1, c .match9 .keys3))
     (λ c. rw (c .before .enum-told8 .given .1, c .match9 .keys4))
-    (λ c. rw (c .before .enum-told8 .given .1) (simp (ne-eqb _ _ (c .match9 .rest .0 .0 .0 .1), ne-eqb _ _ (c .match9 .rest .0 .0 .1), ne-eqb _ _ (c .match9 .rest .0 .1), ne-eqb _ _ (c .match9 .rest .1))))
+    (λ c. rw (c .before .enum-told8 .given .1) (simp (
+      ne-eqb _ _ (c .match9 .rest .0 .0 .0 .1),
+      ne-eqb _ _ (c .match9 .rest .0 .0 .1),
+      ne-eqb _ _ (c .match9 .rest .0 .1),
+      ne-eqb _ _ (c .match9 .rest .1),
+    )))
     (λ c. rw (c .before .enum-told9 .given .1, c .match10 .keys1))
     (λ c. rw (c .before .enum-told9 .given .1) (simp (ne-eqb _ _ (c .match10 .rest .1))))
     (λ c. rw (c .enum-told10 .given .1)))

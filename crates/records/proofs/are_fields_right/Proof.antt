@@ -3,7 +3,7 @@ use Prim.Native.Nat.{_-_}
 use mathlib.Core.Path.{sym, _∙_}
 use borrow.Author.Needs.{needs}
 use borrow.Author.Tests.{not-true, not-false}
-use Rattle.records.proofs.ColumnLaws.{Testing, test-begin, test-sound, test-fails, test-on, test-end}
+use Rattle.records.proofs.ColumnLaws.{Testing, test-begin, test-inside, test-fails, test-on, test-end}
 use Rattle.records.proofs.are_fields_right.Statement.{statement}
 use Rattle.records.proofs.are_fields_right.Tie as tie
 
@@ -16,12 +16,14 @@ abbrev μ-loop : tie.MeasureT-loop
 returns : tie.Need-returns Inv-loop μ-loop
 returns c =
     let t = c .before .before in
-    test-fails _ _ _ _ (t .loop-test .taken) (search needs) (t .before .loop .inv) (sym (c .before .is-field-right .ensures) ∙ not-true _ (c .if1 .taken))
+    test-fails _ _ _ _ (t .loop-test .taken) (search needs) (t .before .loop .inv)
+    (sym (c .before .is-field-right .ensures) ∙ not-true _ (c .if1 .taken))
 
 loop-again : tie.Need-loop-again Inv-loop μ-loop
 loop-again c =
     let t = c .before .before in
-    test-on _ _ _ _ (t .loop-test .taken) (search needs) (t .before .loop .inv) (sym (c .before .is-field-right .ensures) ∙ not-false _ (c .if1 .left))
+    test-on _ _ _ _ (t .loop-test .taken) (search needs) (t .before .loop .inv)
+    (sym (c .before .is-field-right .ensures) ∙ not-false _ (c .if1 .left))
 
 pub are-fields-right-spec : {M : Type 1} → statement M
 are-fields-right-spec =
@@ -30,7 +32,7 @@ are-fields-right-spec =
     Inv-loop
     μ-loop
     (λ c. test-begin _ _ _ (c .before .pre))
-    (λ c κs. test-sound _ _ _ _ (c .loop-test .taken) (search needs) (c .before .loop .inv))
+    (λ c κs. test-inside _ _ _ _ (c .loop-test .taken) (search needs) (c .before .loop .inv))
     returns
     (λ c. search needs)
     (λ c. search needs)

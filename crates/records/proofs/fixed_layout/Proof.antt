@@ -17,14 +17,16 @@ returns-3 c =
     let q = c .before .before in
     let e = q .before .before in
     let l = e .before .before in
-    in-fields (l .before .before .args .s) _ _ (l .looks-in .ensures) (not-false _ (e .if1 .left)) (not-false _ (q .if2 .left)) (sym (c .before .are-fields-right .ensures) ∙ not-true _ (c .if3 .taken))
+    in-fields (l .before .before .args .s) _ _ (l .looks-in .ensures) (not-false _ (e .if1 .left)) (not-false _ (q .if2 .left))
+    (sym (c .before .are-fields-right .ensures) ∙ not-true _ (c .if3 .taken))
 
 returns-4 : tie.Need-returns-4
 returns-4 c =
     let q = c .before .before in
     let e = q .before .before in
     let l = e .before .before in
-    in-fields (l .before .before .args .s) _ _ (l .looks-in .ensures) (not-false _ (e .if1 .left)) (not-false _ (q .if2 .left)) (sym (c .before .are-fields-right .ensures) ∙ not-false _ (c .if3 .left))
+    in-fields (l .before .before .args .s) _ _ (l .looks-in .ensures) (not-false _ (e .if1 .left)) (not-false _ (q .if2 .left))
+    (sym (c .before .are-fields-right .ensures) ∙ not-false _ (c .if3 .left))
 
 pub fixed-layout-spec : {M : Type 1} → statement M
 fixed-layout-spec =
@@ -32,7 +34,10 @@ fixed-layout-spec =
     (tie.spec
     (λ c κs. search needs)
     (λ c. let l = c .before .before in unfit (l .before .before .args .s) _ _ (l .looks-in .ensures) (not-true _ (c .if1 .taken)))
-    (λ c. let e = c .before .before in let l = e .before .before in unfigured (l .before .before .args .s) _ _ (l .looks-in .ensures) (not-false _ (e .if1 .left)) (not-true _ (c .if2 .taken)))
+    (λ c.
+    let e = c .before .before in
+    let l = e .before .before in
+    unfigured (l .before .before .args .s) _ _ (l .looks-in .ensures) (not-false _ (e .if1 .left)) (not-true _ (c .if2 .taken)))
     are-fields-right-requires
     returns-3
     returns-4)

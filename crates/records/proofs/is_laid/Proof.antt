@@ -11,19 +11,21 @@ returns-2 : tie.Need-returns-2
 returns-2 c =
     let q = c .before .before in
     let a = q .before .before .before .args in
-    c .fits-days .ensures ∙ laid-vector (a .days) (a .«record») _ (q .spans-of .ensures) _ (a .ended) (not-false (a .ended) (q .before .if1 .left)) (c .before .if2 .taken)
+    c .fits-days .ensures
+    ∙ laid-vector (a .form) (a .«record») _ (q .spans-of .ensures) _ (a .ended) (not-false (a .ended) (q .before .if1 .left)) (c .before .if2 .taken)
 
 looks-in-requires : tie.Need-looks-in-requires
 looks-in-requires c κs =
     let q = c .before in
-    let p = fixed-place 0 (q .before .before .before .args .«record») _ (q .spans-of .ensures) (c .if2 .left) in
+    let p = fixed-place (q .before .before .before .args .form) (q .before .before .before .args .«record») _ (q .spans-of .ensures) (c .if2 .left) in
     (p .low, p .top)
 
 returns-3 : tie.Need-returns-3
 returns-3 c =
     let q = c .before .before in
     let a = q .before .before .before .args in
-    c .looks-in .ensures .fitting ∙ laid-fixed (a .days) (a .«record») _ (q .spans-of .ensures) _ (a .ended) (not-false (a .ended) (q .before .if1 .left)) (c .before .if2 .left)
+    c .looks-in .ensures .fitting
+    ∙ laid-fixed (a .form) (a .«record») _ (q .spans-of .ensures) _ (a .ended) (not-false (a .ended) (q .before .if1 .left)) (c .before .if2 .left)
 
 pub is-laid-spec : {M : Type 1} → statement M
 is-laid-spec =

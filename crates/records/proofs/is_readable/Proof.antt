@@ -9,13 +9,13 @@ returns : tie.Need-returns
 returns c =
     let l = c .before .before in
     let a = l .before .before in
-    read-passes _ (recordFields (a .args .days) (a .args .«record»)) (a .pre) _ (l .line-layout .ensures) (c .enum-told .given .1)
+    read-passes _ (recordFields (a .args .form) (a .args .«record»)) (a .pre) _ (l .line-layout .ensures) (c .enum-told .given .1)
 
 returns-2 : tie.Need-returns-2
 returns-2 c =
     let l = c .before .before in
     let a = l .before .before in
-    read-fails _ (recordFields (a .args .days) (a .args .«record»)) (a .pre) _ (l .line-layout .ensures) _ (c .enum-told2 .given .1)
+    read-fails _ (recordFields (a .args .form) (a .args .«record»)) (a .pre) _ (l .line-layout .ensures) _ (c .enum-told2 .given .1)
 
 pub is-readable-spec : {M : Type 1} → statement M
 is-readable-spec =

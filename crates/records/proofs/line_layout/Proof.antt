@@ -10,19 +10,21 @@ returns-2 : tie.Need-returns-2
 returns-2 c =
     let q = c .before .before in
     let a = q .before .before .before .args in
-    c .vector-layout .ensures ∙ order-vector (a .days) (a .«record») _ (q .spans-of .ensures) _ (a .ended) (not-false (a .ended) (q .before .if1 .left)) (c .before .if2 .taken)
+    c .vector-layout .ensures
+    ∙ order-vector (a .form) (a .«record») _ (q .spans-of .ensures) _ (a .ended) (not-false (a .ended) (q .before .if1 .left)) (c .before .if2 .taken)
 
 fixed-layout-requires : tie.Need-fixed-layout-requires
 fixed-layout-requires c κs =
     let q = c .before in
     let a = q .before .before .before .args in
-    fixed-fit (a .days) (a .«record») _ (q .spans-of .ensures) _ (c .if2 .left)
+    fixed-fit (a .form) (a .«record») _ (q .spans-of .ensures) _ (c .if2 .left)
 
 returns-3 : tie.Need-returns-3
 returns-3 c =
     let q = c .before .before in
     let a = q .before .before .before .args in
-    c .fixed-layout .ensures ∙ order-fixed (a .days) (a .«record») _ (q .spans-of .ensures) _ (a .ended) (not-false (a .ended) (q .before .if1 .left)) (c .before .if2 .left)
+    c .fixed-layout .ensures
+    ∙ order-fixed (a .form) (a .«record») _ (q .spans-of .ensures) _ (a .ended) (not-false (a .ended) (q .before .if1 .left)) (c .before .if2 .left)
 
 pub line-layout-spec : {M : Type 1} → statement M
 line-layout-spec =

@@ -3,7 +3,7 @@ use Prim.Native.Nat.{_-_}
 use mathlib.Core.Path.{_∙_}
 use borrow.Author.Needs.{needs}
 use lib.ListN.{length}
-use Rattle.records.proofs.ColumnLaws.{Putting, put-begin, put-sound, put-on, put-end}
+use Rattle.records.proofs.ColumnLaws.{Putting, put-begin, put-inside, put-on, put-end}
 use Rattle.records.proofs.RowLaws.{cleared-length}
 use Rattle.records.proofs.put_fields.Statement.{statement}
 use Rattle.records.proofs.put_fields.Tie as tie
@@ -26,7 +26,7 @@ loop-holds c =
 field-word-requires : tie.Need-field-word-requires Inv-loop μ-loop
 field-word-requires c κs =
     let p = c .before .before .before .before .before .before .before .before .pre .0 in
-    put-sound _ _ _ _ _ _ _ _ _ (c .loop-test .taken) (p .inTable) (c .before .loop .inv)
+    put-inside _ _ _ _ _ _ _ _ _ (c .loop-test .taken) (p .inTable) (c .before .loop .inv)
 
 loop-again : tie.Need-loop-again Inv-loop μ-loop
 loop-again c =
@@ -42,7 +42,8 @@ same-length c =
 returns : tie.Need-returns Inv-loop μ-loop
 returns c =
     let o = c .before .before .before .before in
-    put-end _ _ _ _ _ _ _ _ _ (c .loop-test .left) (c .before .loop .inv) _ (cleared-length (length (o .before .before .before .before .args .out .now)) _ _ (o .clear .ensures))
+    put-end _ _ _ _ _ _ _ _ _ (c .loop-test .left) (c .before .loop .inv) _
+    (cleared-length (length (o .before .before .before .before .args .out .now)) _ _ (o .clear .ensures))
 
 pub put-fields-spec : {M : Type 1} → statement M
 put-fields-spec =

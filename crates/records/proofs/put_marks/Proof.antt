@@ -1,9 +1,9 @@
 -- What is left to put are the words of the marks that are left. Assumes nothing.
 use Prim.Native.Nat.{_-_}
 use mathlib.Core.Path.{_∙_}
-use native.Mathlib.Omega.{arith}
 use borrow.Author.Needs.{needs}
 use lib.ListN.{length}
+use Rattle.iff.specs.Values.{vectorWidth}
 use Rattle.records.proofs.VectorLaws.{Marking, mark-begin, mark-on, mark-end}
 use Rattle.records.proofs.RowLaws.{cleared-length}
 use Rattle.records.proofs.put_marks.Statement.{statement}
@@ -13,7 +13,7 @@ abbrev Inv-loop : tie.InvT-loop
 Inv-loop tag line out₀ i₀ out i = Marking tag line out₀ out i
 
 abbrev μ-loop : tie.MeasureT-loop
-μ-loop tag line out₀ i₀ out i = 13 - i
+μ-loop tag line out₀ i₀ out i = vectorWidth - i
 
 loop-holds : tie.Need-loop-holds Inv-loop μ-loop
 loop-holds c =
@@ -36,7 +36,8 @@ same-length c =
 returns : tie.Need-returns Inv-loop μ-loop
 returns c =
     let o = c .before .before .before .before in
-    mark-end _ _ _ _ _ (c .loop-test .left) (c .before .loop .inv) _ (cleared-length (length (o .before .before .before .before .args .out .now)) _ _ (o .clear .ensures))
+    mark-end _ _ _ _ _ (c .loop-test .left) (c .before .loop .inv) _
+    (cleared-length (length (o .before .before .before .before .args .out .now)) _ _ (o .clear .ensures))
 
 pub put-marks-spec : {M : Type 1} → statement M
 put-marks-spec =

@@ -11,5 +11,13 @@ vector-layout-spec =
     (λ c κs. search needs)
     (λ c. rw (← c .before .fits-days .ensures, not-true (c .before .fits-days .result) (c .if1 .taken)))
     (λ c κs. search needs)
-    (λ c. let e = c .before .before in rw (← e .before .fits-days .ensures, not-false (e .before .fits-days .result) (e .if1 .left), ← c .before .all-marks .ensures, not-true (c .before .all-marks .result) (c .if2 .taken)))
-    (λ c. let e = c .before .before in rw (← e .before .fits-days .ensures, not-false (e .before .fits-days .result) (e .if1 .left), ← c .before .all-marks .ensures, not-false (c .before .all-marks .result) (c .if2 .left))))
+    (λ c.
+    let e = c .before .before in
+    let d = e .before .fits-days in
+    let m = c .before .all-marks in
+    rw (← d .ensures, not-false (d .result) (e .if1 .left), ← m .ensures, not-true (m .result) (c .if2 .taken)))
+    (λ c.
+    let e = c .before .before in
+    let d = e .before .fits-days in
+    let m = c .before .all-marks in
+    rw (← d .ensures, not-false (d .result) (e .if1 .left), ← m .ensures, not-false (m .result) (c .if2 .left))))

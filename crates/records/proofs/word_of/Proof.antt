@@ -18,4 +18,5 @@ word-of-spec =
     (λ c. rw (c .before .match .keys1) (c .number .ensures))
     (λ c. rw (c .before .before .match .keys2, c .stop-of .ensures, c .before .number2 .ensures))
     (λ c. rw (c .before .match .keys3) (c .company-or-any .ensures))
-    (λ c. simp (ne-eqb _ _ (c .before .match .rest .0 .0 .1), ne-eqb _ _ (c .before .match .rest .0 .1), ne-eqb _ _ (c .before .match .rest .1)) (c .code .ensures)))
+    (λ c. simp (ne-eqb _ _ (c .before .match .rest .0 .0 .1), ne-eqb _ _ (c .before .match .rest .0 .1), ne-eqb _ _ (c .before .match .rest .1))
+    (c .code .ensures)))

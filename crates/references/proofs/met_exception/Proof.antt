@@ -2,18 +2,23 @@
 use mathlib.Core.Path.{_∙_}
 use borrow.Author.Needs.{needs}
 use borrow.Author.Tests.{eq-eqb, ne-eqb}
-use Rattle.iff_rules.specs.References.{met}
+use Rattle.iff_rules.specs.References.{metInGroup}
 use Rattle.references.proofs.References.{sides-met}
 use Rattle.references.proofs.met_exception.Statement.{statement}
 use Rattle.references.proofs.met_exception.Tie as tie
 
+-- the start, before the five slices
+abbrev start : tie.After-shared-slice-known5 → tie.Start
+start c = c .before .before .before .before .before
+
 returns : tie.Need-returns
-unfolding met
+unfolding metInGroup
 returns c k a = rw (eq-eqb _ _ (c .before .before .if1 .taken), a .stations) (c .names-among .ensures)
 
 returns-2 : tie.Need-returns-2
-unfolding met
-returns-2 c k a = rw (ne-eqb _ _ (c .before .if1 .left)) (c .met-sides .ensures ∙ sides-met k _ _ _ _ _ a (c .before .before .before .before .before .before .before .before .args .row .now))
+unfolding metInGroup
+returns-2 c k a =
+    rw (ne-eqb _ _ (c .before .if1 .left)) (c .met-sides .ensures ∙ sides-met k _ _ _ _ _ a (start (c .before .before .before) .args .row .now))
 
 pub met-exception-spec : {M : Type 1} → statement M
 met-exception-spec =

@@ -1,15 +1,15 @@
 -- `met_station` meets its contract. Assumes nothing.
 use borrow.Author.Needs.{needs}
-use Rattle.iff_rules.specs.References.{met}
+use Rattle.iff_rules.specs.References.{metByRow}
 use Rattle.references.proofs.met_station.Statement.{statement}
 use Rattle.references.proofs.met_station.Tie as tie
 
 returns : tie.Need-returns
-unfolding met
+unfolding metByRow
 returns c k a = rw (a .countries, a .zones, ← c .before .before .before .names .ensures, c .before .before .if1 .taken) (c .names2 .ensures)
 
 returns-2 : tie.Need-returns-2
-unfolding met
+unfolding metByRow
 returns-2 c k a = rw (a .countries, ← c .before .names .ensures, c .if1 .left)
 
 pub met-station-spec : {M : Type 1} → statement M

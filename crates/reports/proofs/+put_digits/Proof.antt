@@ -30,10 +30,14 @@ abbrev calls : ℕ → put-digits-lts.Claims
 calls t = (last-digit-reads.Asked, last-digit-reads.Learnt, put-byte-reads.Asked, put-byte-reads.Learnt, put-digits-below t, put-digits.Post)
 
 returns : (t : ℕ) → put-digits-lts.Need-returns (calls t) (put-digits-at t) put-digits.Post
-returns t c = only-digit _ _ (c .before .before .before .before .before .last-digit .ensures) (c .before .before .before .before .if1 .taken) (c .before .before .put-byte .ensures)
+returns t c =
+    let put = c .before .before in
+    only-digit _ _ (put .before .before .before .last-digit .ensures) (put .before .before .if1 .taken) (put .put-byte .ensures)
 
 returns-2 : (t : ℕ) → put-digits-lts.Need-returns-2 (calls t) (put-digits-at t) put-digits.Post
-returns-2 t c = small-number _ _ (c .before .before .before .before .before .before .last-digit .ensures) (c .before .before .before .before .if2 .taken) (c .before .before .put-byte2 .ensures)
+returns-2 t c =
+    let put = c .before .before in
+    small-number _ _ (put .before .before .before .before .last-digit .ensures) (put .before .before .if2 .taken) (put .put-byte2 .ensures)
 
 put-digits-requires : (t : ℕ) → put-digits-lts.Need-put-digits-requires (calls t) (put-digits-at t) put-digits.Post
 put-digits-requires t c κs = (omega (arith, c .before .before .before .before .before .pre .0, c .before .before .if1 .left), tt)
@@ -42,7 +46,12 @@ same-length-3 : (t : ℕ) → put-digits-lts.Need-same-length-3 (calls t) (put-d
 same-length-3 t c = c .before .before .put-byte3 .ensures .kept ∙ c .before .before .before .before .before .before .put-digits .ensures .kept
 
 returns-3 : (t : ℕ) → put-digits-lts.Need-returns-3 (calls t) (put-digits-at t) put-digits.Post
-returns-3 t c = more-digits _ _ (c .before .before .before .before .before .before .before .before .before .before .last-digit .ensures) (c .before .before .before .before .before .before .before .before .before .if1 .left) (c .before .before .before .before .before .before .before .before .if2 .left) (c .before .before .before .before .before .before .put-digits .ensures) (c .before .before .put-byte3 .ensures)
+returns-3 t c =
+    let put = c .before .before in
+    let more = put .before .before .before .before in
+    let large = more .before .before in
+    let deep = large .before in
+    more-digits _ _ (deep .before .last-digit .ensures) (deep .if1 .left) (large .if2 .left) (more .put-digits .ensures) (put .put-byte3 .ensures)
 
 pub +put-digits-spec : {M : Type 1} → statement M
 +put-digits-spec =

@@ -10,4 +10,14 @@ returns-2 : tie.Need-returns-2
 returns-2 c = rw (c .before .before .before .before .before .answer2 .given .1) (c .before .before .put-refused .ensures)
 
 pub put-answer-spec : {M : Type 1} → statement M
-put-answer-spec = tie.close (tie.spec (λ c. search needs) (λ c κs. search needs) (λ c. search needs) (λ c κs. search needs) (λ c. search needs) returns (λ c. search needs) returns-2)
+put-answer-spec =
+    tie.close
+    (tie.spec
+    (λ c. search needs)
+    (λ c κs. search needs)
+    (λ c. search needs)
+    (λ c κs. search needs)
+    (λ c. search needs)
+    returns
+    (λ c. search needs)
+    returns-2)

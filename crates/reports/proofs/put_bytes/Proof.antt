@@ -17,7 +17,10 @@ loop-holds : tie.Need-loop-holds Inv-loop μ-loop
 loop-holds c = put-none _ _ _ _
 
 loop-again : tie.Need-loop-again Inv-loop μ-loop
-loop-again c = put-next _ _ _ _ _ _ _ _ _ _ (c .before .before .before .before .before .before .loop .inv) refl (c .before .before .before .before .before .loop-test .taken) refl (c .before .before .put-byte .ensures)
+loop-again c =
+    let put = c .before .before in
+    let turn = put .before .before .before in
+    put-next _ _ _ _ _ _ _ _ _ _ (turn .before .loop .inv) refl (turn .loop-test .taken) refl (put .put-byte .ensures)
 
 returns : tie.Need-returns Inv-loop μ-loop
 returns c = put-all _ _ _ _ _ _ _ (c .before .loop .inv) refl (c .loop-test .left)

@@ -8,4 +8,10 @@ returns : tie.Need-returns
 returns c = then (c .before .before .before .before .before .before .put-byte .ensures) (c .before .before .put-digits .ensures)
 
 pub put-field-spec : {M : Type 1} → statement M
-put-field-spec = tie.close (tie.spec (λ c κs. search needs) (λ c κs. search needs) (λ c. search needs) returns)
+put-field-spec =
+    tie.close
+    (tie.spec
+    (λ c κs. search needs)
+    (λ c κs. search needs)
+    (λ c. search needs)
+    returns)

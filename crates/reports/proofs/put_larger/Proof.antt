@@ -7,7 +7,18 @@ use Rattle.reports.proofs.put_larger.Tie as tie
 
 returns : tie.Need-returns
 unfolding bytes
-returns c = then (c .before .before .before .before .before .before .before .before .before .before .put-bytes .ensures) (then (c .before .before .before .before .before .before .put-place .ensures) (c .before .before .put-byte .ensures))
+returns c =
+    let byte = c .before .before in
+    let place = byte .before .before .before .before in
+    then (place .before .before .before .before .put-bytes .ensures) (then (place .put-place .ensures) (byte .put-byte .ensures))
 
 pub put-larger-spec : {M : Type 1} → statement M
-put-larger-spec = tie.close (tie.spec (λ c. search needs) (λ c κs. search needs) (λ c κs. search needs) (λ c κs. search needs) (λ c. search needs) returns)
+put-larger-spec =
+    tie.close
+    (tie.spec
+    (λ c. search needs)
+    (λ c κs. search needs)
+    (λ c κs. search needs)
+    (λ c κs. search needs)
+    (λ c. search needs)
+    returns)

@@ -1,19 +1,52 @@
--- `put_name` meets its contract. Assumes nothing.
-use mathlib.Core.Path.{sym}
-use lib.Seq.{length-take-le}
-use Rattle.reports.proofs.TextLaws.{name-fits, name-put}
+-- `put_name` meets its contract: the kind is known. Assumes nothing.
 use borrow.Author.Needs.{needs}
+use Rattle.iff.specs.Bytes.{bytes}
 use Rattle.reports.proofs.put_name.Statement.{statement}
 use Rattle.reports.proofs.put_name.Tie as tie
 
-array-share-prefix-name : tie.Need-array-share-prefix-name
-array-share-prefix-name c = rw (c .before .name-size .ensures, c .before .before .name-bytes .ensures) (name-fits _)
-
-slice-aggregate-put-bytes : tie.Need-slice-aggregate-put-bytes
-slice-aggregate-put-bytes c = sym (length-take-le _ _ (rw (c .before .before .name-size .ensures, c .before .before .before .name-bytes .ensures) (name-fits _)))
-
 returns : tie.Need-returns
-returns c = name-put _ (c .before .before .before .before .before .before .name-bytes .ensures) (c .before .before .before .before .before .name-size .ensures) (c .before .before .put-bytes .ensures)
+unfolding bytes
+returns c =
+    let told = c .before .before in
+    rw (told .before .before .before .enum-told .given .1) (told .put-bytes .ensures)
+
+returns-2 : tie.Need-returns-2
+unfolding bytes
+returns-2 c =
+    let told = c .before .before in
+    rw (told .before .before .before .file .given .1) (told .put-row-name .ensures)
+
+returns-3 : tie.Need-returns-3
+unfolding bytes
+returns-3 c =
+    let told = c .before .before in
+    rw (told .before .before .before .file2 .given .1) (told .put-group-name .ensures)
+
+returns-4 : tie.Need-returns-4
+unfolding bytes
+returns-4 c =
+    let told = c .before .before in
+    rw (told .before .before .before .enum-told2 .given .1) (told .put-bytes2 .ensures)
 
 pub put-name-spec : {M : Type 1} → statement M
-put-name-spec = tie.close (tie.spec (λ c κs. search needs) (λ c κs. search needs) array-share-prefix-name slice-aggregate-put-bytes (λ c κs. search needs) (λ c. search needs) returns)
+put-name-spec =
+    tie.close
+    (tie.spec
+    (λ c. search needs)
+    (λ c. search needs)
+    (λ c κs. search needs)
+    (λ c. search needs)
+    (λ c κs. search needs)
+    (λ c. search needs)
+    (λ c κs. search needs)
+    (λ c. search needs)
+    (λ c. search needs)
+    (λ c κs. search needs)
+    (λ c. search needs)
+    returns
+    (λ c. search needs)
+    returns-2
+    (λ c. search needs)
+    returns-3
+    (λ c. search needs)
+    returns-4)

@@ -10,4 +10,10 @@ returns c =
     (at-front p, p)
 
 pub put-path-spec : {M : Type 1} → statement M
-put-path-spec = tie.close (tie.spec (λ c κs. search needs) (λ c κs. search needs) (λ c. search needs) returns)
+put-path-spec =
+    tie.close
+    (tie.spec
+    (λ c κs. search needs)
+    (λ c κs. search needs)
+    (λ c. search needs)
+    returns)

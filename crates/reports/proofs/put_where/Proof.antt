@@ -5,7 +5,23 @@ use Rattle.reports.proofs.put_where.Statement.{statement}
 use Rattle.reports.proofs.put_where.Tie as tie
 
 returns : tie.Need-returns
-returns c = rw (← (c .before .before .before .before .before .before .before .before .before .before .before .before .ordinal-of .ensures), ← (c .before .before .before .before .before .before .before .line-of .ensures)) (then (c .before .before .before .before .before .before .before .before .before .before .before .before .before .before .before .before .put-place .ensures) (then (c .before .before .before .before .before .before .before .before .before .before .before .put-field .ensures) (then (c .before .before .before .before .before .before .put-field2 .ensures) (c .before .before .put-byte .ensures))))
+returns c =
+    let byte = c .before .before in
+    let line = byte .before .before .before .before in
+    let ordinal = line .before .before .before .before .before in
+    let place = ordinal .before .before .before .before .before in
+    rw (← (ordinal .before .ordinal-of .ensures), ← (line .before .line-of .ensures))
+    (then (place .put-place .ensures) (then (ordinal .put-field .ensures) (then (line .put-field2 .ensures) (byte .put-byte .ensures))))
 
 pub put-where-spec : {M : Type 1} → statement M
-put-where-spec = tie.close (tie.spec (λ c κs. search needs) (λ c κs. search needs) (λ c κs. search needs) (λ c κs. search needs) (λ c κs. search needs) (λ c κs. search needs) (λ c. search needs) returns)
+put-where-spec =
+    tie.close
+    (tie.spec
+    (λ c κs. search needs)
+    (λ c κs. search needs)
+    (λ c κs. search needs)
+    (λ c κs. search needs)
+    (λ c κs. search needs)
+    (λ c κs. search needs)
+    (λ c. search needs)
+    returns)

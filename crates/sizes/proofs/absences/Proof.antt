@@ -1,14 +1,41 @@
 -- `absences` meets its contract: the tests of the files, in their order. Assumes nothing.
 use borrow.Author.Needs.{needs}
-use lib.Dec.{ltb}
-use Rattle.iff.specs.declared.File.the-variants.{Delivery, Company, Country, Trnsmode, Timezone, Stations, Footnote, Timetbls, Changes, Xfootnote, Xchanges}
-use Rattle.sizes.specs.Sizes.{absenceOf}
+use mathlib.Core.Path.{refl}
+use Rattle.iff.specs.Files.{eleven}
+use Rattle.iff_rules.specs.Load.{absenceVerdict}
+use Rattle.sizes.specs.Sizes.{thereBy}
 use Rattle.sizes.proofs.SizeLaws.{in-order}
 use Rattle.sizes.proofs.absences.Statement.{statement}
 use Rattle.sizes.proofs.absences.Tie as tie
 
 returns : tie.Need-returns
-returns c = let a = c .before .before .before .before .before .before .before .before .before .before .before .args in in-order (absenceOf (ltb 0 (a .n-xchanges)) Delivery (a .n-delivery)) (absenceOf (ltb 0 (a .n-xchanges)) Company (a .n-company)) (absenceOf (ltb 0 (a .n-xchanges)) Country (a .n-country)) (absenceOf (ltb 0 (a .n-xchanges)) Trnsmode (a .n-trnsmode)) (absenceOf (ltb 0 (a .n-xchanges)) Timezone (a .n-timezone)) (absenceOf (ltb 0 (a .n-xchanges)) Stations (a .n-stations)) (absenceOf (ltb 0 (a .n-xchanges)) Footnote (a .n-footnote)) (absenceOf (ltb 0 (a .n-xchanges)) Timetbls (a .n-timetbls)) (absenceOf (ltb 0 (a .n-xchanges)) Changes (a .n-changes)) (absenceOf (ltb 0 (a .n-xchanges)) Xfootnote (a .n-xfootnote)) (absenceOf (ltb 0 (a .n-xchanges)) Xchanges (a .n-xchanges)) (a .v) _ _ _ _ _ _ _ _ _ _ (c .before .before .before .before .before .before .before .before .before .before .absence-test .ensures) (c .before .before .before .before .before .before .before .before .before .absence-test2 .ensures) (c .before .before .before .before .before .before .before .before .absence-test3 .ensures) (c .before .before .before .before .before .before .before .absence-test4 .ensures) (c .before .before .before .before .before .before .absence-test5 .ensures) (c .before .before .before .before .before .absence-test6 .ensures) (c .before .before .before .before .absence-test7 .ensures) (c .before .before .before .absence-test8 .ensures) (c .before .before .absence-test9 .ensures) (c .before .absence-test10 .ensures) (c .absence-test11 .ensures)
+returns c =
+    let xfootnote = c .before in
+    let changes = xfootnote .before in
+    let timetbls = changes .before in
+    let footnote = timetbls .before in
+    let stations = footnote .before in
+    let timezone = stations .before in
+    let trnsmode = timezone .before in
+    let country = trnsmode .before in
+    let company = country .before in
+    let delivery = company .before in
+    let a = delivery .before .args in
+    let there = thereBy
+    (eleven (a .n-delivery) (a .n-company) (a .n-country) (a .n-trnsmode) (a .n-timezone) (a .n-stations) (a .n-footnote) (a .n-timetbls)
+    (a .n-changes) (a .n-xfootnote) (a .n-xchanges)) in
+    in-order (absenceVerdict there) (a .v)
+    (delivery .absence-test .ensures there refl refl)
+    (company .absence-test2 .ensures there refl refl)
+    (country .absence-test3 .ensures there refl refl)
+    (trnsmode .absence-test4 .ensures there refl refl)
+    (timezone .absence-test5 .ensures there refl refl)
+    (stations .absence-test6 .ensures there refl refl)
+    (footnote .absence-test7 .ensures there refl refl)
+    (timetbls .absence-test8 .ensures there refl refl)
+    (changes .absence-test9 .ensures there refl refl)
+    (xfootnote .absence-test10 .ensures there refl refl)
+    (c .absence-test11 .ensures there refl refl)
 
 pub absences-spec : {M : Type 1} → statement M
 absences-spec =

@@ -24,9 +24,13 @@ word-at-requires c κs =
 
 returns : tie.Need-returns Inv-loop μ-loop
 returns c =
-    let a = c .before .before .before .before .before .args in
-    let l = c .before .before .before in
-    sym (l .loop .inv ∙ search-unused (keyed (a .tag) (a .col) (a .key)) (a .t .now) (a .w) (a .to) (l .loop .i) (search needs) (search needs) _ (c .before .word-at .ensures) (c .if1 .taken))
+    let r = c .before in
+    let l = r .before .before in
+    let a = l .before .before .args in
+    sym
+    (l .loop .inv
+    ∙ search-unused (keyed (a .tag) (a .col) (a .key)) (a .t .now) (a .w) (a .to) (l .loop .i) (search needs) (search needs) _
+    (r .word-at .ensures) (c .if1 .taken))
 
 keyed-at-requires : tie.Need-keyed-at-requires Inv-loop μ-loop
 keyed-at-requires c κs =
@@ -36,15 +40,22 @@ keyed-at-requires c κs =
 
 returns-2 : tie.Need-returns-2 Inv-loop μ-loop
 returns-2 c =
-    let a = c .before .before .before .before .before .before .before .args in
-    let l = c .before .before .before .before .before in
-    sym (l .loop .inv ∙ search-here (keyed (a .tag) (a .col) (a .key)) (a .t .now) (a .w) (a .to) (l .loop .i) (search needs) (search needs) _ (c .before .before .before .word-at .ensures) (c .before .before .if1 .left) _ (c .before .keyed-at .ensures) (c .if2 .taken))
+    let u = c .before .before in
+    let l = u .before .before .before in
+    let a = l .before .before .args in
+    sym
+    (l .loop .inv
+    ∙ search-here (keyed (a .tag) (a .col) (a .key)) (a .t .now) (a .w) (a .to) (l .loop .i) (search needs) (search needs) _
+    (u .before .word-at .ensures) (u .if1 .left) _ (c .before .keyed-at .ensures) (c .if2 .taken))
 
 loop-again : tie.Need-loop-again Inv-loop μ-loop
 loop-again c =
-    let a = c .before .before .before .before .before .before .before .args in
-    let l = c .before .before .before .before .before in
-    l .loop .inv ∙ search-on (keyed (a .tag) (a .col) (a .key)) (a .t .now) (a .w) (a .to) (l .loop .i) (search needs) (search needs) _ (c .before .before .before .word-at .ensures) (c .before .before .if1 .left) _ (c .before .keyed-at .ensures) (c .if2 .left)
+    let u = c .before .before in
+    let l = u .before .before .before in
+    let a = l .before .before .args in
+    l .loop .inv
+    ∙ search-on (keyed (a .tag) (a .col) (a .key)) (a .t .now) (a .w) (a .to) (l .loop .i) (search needs) (search needs) _
+    (u .before .word-at .ensures) (u .if1 .left) _ (c .before .keyed-at .ensures) (c .if2 .left)
 
 returns-3 : tie.Need-returns-3 Inv-loop μ-loop
 returns-3 c =

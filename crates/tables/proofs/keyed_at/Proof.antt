@@ -13,7 +13,8 @@ returns c =
 returns-2 : tie.Need-returns-2
 returns-2 c =
     let a = c .before .before .before .before .args in
-    keyed-by (a .tag) (a .col) (a .key) (rowAt (a .w) (a .t .now) (a .i)) _ (c .before .before .word-at .ensures) _ (c .word-at2 .ensures) (c .before .if1 .left)
+    keyed-by (a .tag) (a .col) (a .key) (rowAt (a .w) (a .t .now) (a .i)) _ (c .before .before .word-at .ensures) _ (c .word-at2 .ensures)
+    (c .before .if1 .left)
 
 pub keyed-at-spec : {M : Type 1} → statement M
 keyed-at-spec = tie.close (tie.spec (λ c κs. search needs) returns (λ c κs. search needs) returns-2)

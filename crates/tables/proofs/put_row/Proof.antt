@@ -21,8 +21,11 @@ loop-holds c = (omega arith, paste-zero _ (c .args .i * c .args .w) (c .args .ro
 loop-again : tie.Need-loop-again Inv-loop μ-loop
 loop-again c =
     let a = c .before .before .before .args in
-    let w = c .before .before .loop in
-    (omega arith, copy-next (a .t .now) (a .i * a .w) (a .row .now) (w .t) (w .k) (omega arith) (omega arith) (w .inv .1), simp length-set (w .inv .2))
+    let w = c .before .before .loop in (
+      omega arith,
+      copy-next (a .t .now) (a .i * a .w) (a .row .now) (w .t) (w .k) (omega arith) (omega arith) (w .inv .1),
+      simp length-set (w .inv .2),
+    )
 
 returns : tie.Need-returns Inv-loop μ-loop
 returns c =

@@ -27,7 +27,8 @@ add-i c =
     omega (arith, div-le-self (length (a .t .now)) (a .w))
 
 loop-again : tie.Need-loop-again Inv-loop μ-loop
-loop-again c = count-on _ _ _ _ (c .before .before .before .loop .inv) (search needs) _ (rest-row _ _ _ _ (search needs) (search needs) (search needs))
+loop-again c =
+    count-on _ _ _ _ (c .before .before .before .loop .inv) (search needs) _ (rest-row _ _ _ _ (search needs) (search needs) (search needs))
 
 returns-2 : tie.Need-returns-2 Inv-loop μ-loop
 returns-2 c = count-end _ _ _ _ (c .before .loop .inv) (rest-none _ _ _ _ (search needs))

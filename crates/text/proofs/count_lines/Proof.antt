@@ -15,7 +15,8 @@ abbrev μ-loop : tie.MeasureT-loop
 μ-loop text n₀ at₀ n at = length text - at
 
 -- the line of this turn
-line : (c : tie.After-e Inv-loop μ-loop) → EndedAt (c .before .before .before .before .before .before .args .text .now) (c .before .before .before .before .loop .at) (c .e .given .0 .0)
+line : (c : tie.After-e Inv-loop μ-loop)
+    → EndedAt (c .before .before .before .before .before .before .args .text .now) (c .before .before .before .before .loop .at) (c .e .given .0 .0)
 line c = after-ended _ _ (c .before .before .before .loop-test .taken) _ (sym (c .before .before .line-end .ensures) ∙ c .e .given .1)
 
 loop-again : tie.Need-loop-again Inv-loop μ-loop

@@ -23,7 +23,8 @@ add-acc c = record { fits = next-fits _ _ _ _ (search needs) (c .byte-value .ens
 
 loop-again : tie.Need-loop-again Inv-loop μ-loop
 loop-again c =
-    valued-next _ _ _ _ _ _ (search needs) (c .byte-value .ensures .1) (c .byte-value .ensures .0) (search needs) (c .before .before .before .loop .inv)
+    valued-next _ _ _ _ _ _ (search needs) (c .byte-value .ensures .1) (c .byte-value .ensures .0) (search needs)
+    (c .before .before .before .loop .inv)
 
 returns : tie.Need-returns Inv-loop μ-loop
 returns c = valued-end _ _ _ _ _ (c .loop-test .left) (c .before .loop .inv)

@@ -17,7 +17,8 @@ returns : tie.Need-returns Inv-loop μ-loop
 returns c = found _ _ _ (c .before .before .loop-test .taken) (sym (c .before .ends .ensures) ∙ c .if1 .taken) (c .before .before .before .loop .inv)
 
 loop-again : tie.Need-loop-again Inv-loop μ-loop
-loop-again c = looks-on _ _ _ (c .before .before .loop-test .taken) (sym (c .before .ends .ensures) ∙ c .if1 .left) (c .before .before .before .loop .inv)
+loop-again c =
+    looks-on _ _ _ (c .before .before .loop-test .taken) (sym (c .before .ends .ensures) ∙ c .if1 .left) (c .before .before .before .loop .inv)
 
 returns-2 : tie.Need-returns-2 Inv-loop μ-loop
 returns-2 c = not-found _ _ _ (c .loop-test .left) (c .before .loop .inv)

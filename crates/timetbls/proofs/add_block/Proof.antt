@@ -1,5 +1,5 @@
 -- `timetbls::add_block` meets its contract: each way out is one of the laws of one block. Assumes nothing.
-use mathlib.Core.Path.{refl, _∙_}
+use mathlib.Core.Path.{refl}
 use native.Mathlib.Omega.{arith}
 use borrow.Author.Needs.{needs}
 use Rattle.timetbls.proofs.AddLaws.{added-faulty, placeable, added-kept}
@@ -16,7 +16,8 @@ write-block-requires c κs =
     let y = k .before .before in
     let s = start y in
     let a = s .args in
-    placeable (a .block .now) (a .t .now) (a .counts) (a .companies .now) (a .modes .now) (a .stations .now) (a .footnotes .now) _ (y .test-block .ensures) (a .marks .now) (a .run) (a .row) (s .pre) _ _ (k .k .given .1)
+    placeable (a .form) (a .block .now) (a .t .now) (a .counts) (a .companies .now) (a .modes .now) (a .stations .now) (a .footnotes .now)
+    _ (y .test-block .ensures) (a .marks .now) (a .run) (a .row) (s .pre) _ _ (k .k .given .1)
 
 add-next : tie.Need-add-next
 add-next c =
@@ -24,15 +25,22 @@ add-next c =
     let y = k .before .before in
     let s = start y in
     let a = s .args in
-    let p = placeable (a .block .now) (a .t .now) (a .counts) (a .companies .now) (a .modes .now) (a .stations .now) (a .footnotes .now) _ (y .test-block .ensures) (a .marks .now) (a .run) (a .row) (s .pre) _ _ (k .k .given .1) in
+    let p = placeable (a .form) (a .block .now) (a .t .now) (a .counts) (a .companies .now) (a .modes .now) (a .stations .now) (a .footnotes .now)
+    _ (y .test-block .ensures) (a .marks .now) (a .run) (a .row) (s .pre) _ _ (k .k .given .1) in
     omega (arith, p .room, s .good)
+
+after-block-requires : tie.Need-after-block-requires
+after-block-requires c κs =
+    let y = c .before .before .before .before .before .before .before .before in
+    start y .pre .holding .marked .wide
 
 returns : tie.Need-returns
 returns c =
     let y = c .before .before .before in
     let s = start y in
     let a = s .args in
-    added-faulty (a .block .now) (a .t .now) (a .counts) (a .companies .now) (a .modes .now) (a .stations .now) (a .footnotes .now) _ (y .test-block .ensures) _ _ (c .before .why .given .1) _ _
+    added-faulty (a .form) (a .block .now) (a .t .now) (a .counts) (a .companies .now) (a .modes .now) (a .stations .now) (a .footnotes .now)
+    _ (y .test-block .ensures) _ _ (c .before .why .given .1) _ _
 
 returns-2 : tie.Need-returns-2
 returns-2 c =
@@ -42,19 +50,21 @@ returns-2 c =
     let y = k .before .before in
     let s = start y in
     let a = s .args in
-    added-kept (a .block .now) (a .t .now) (a .counts) (a .companies .now) (a .modes .now) (a .stations .now) (a .footnotes .now) _ (y .test-block .ensures) (a .marks .now) (a .run) (a .row) (s .pre) _ _ (k .k .given .1)
-    _ (w .write-block .kept .1 .1 .1 .0) (w .write-block .ensures) _ _ _ (f .after-block .ensures) refl
+    added-kept (a .form) (a .block .now) (a .t .now) (a .counts) (a .companies .now) (a .modes .now) (a .stations .now) (a .footnotes .now)
+    _ (y .test-block .ensures) (a .marks .now) (a .run) (a .row) (s .pre) _ _ (k .k .given .1)
+    _ (w .write-block .kept .1 .1 .1 .1 .0) (w .write-block .ensures) _ _ _ (f .after-block .ensures (a .form)) refl
 
 pub add-block-spec : {M : Type 1} → statement M
 add-block-spec =
     tie.close
     (tie.spec
-    (λ c κs. let s = c .before .before .before .before .before .before .before .before .before .before in (s .pre .holding .services, s .pre .holding .marked, s .pre .one .opens))
+    (λ c κs. let s = c .before .before .before .before .before .before .before .before .before .before in
+    (s .pre .holding .services, s .pre .holding .marked, s .pre .one .opens))
     (λ c. search needs)
     (λ c. search needs)
     write-block-requires
     add-next
-    (λ c κs. c .before .before .before .before .before .before .before .before .before .before .before .before .before .before .before .before .before .before .before .pre .holding .marked .wide)
+    after-block-requires
     (λ c. search needs)
     (λ c. search needs)
     returns

@@ -6,7 +6,14 @@ use Rattle.timetbls.proofs.after_block.Statement.{statement}
 use Rattle.timetbls.proofs.after_block.Tie as tie
 
 returns : tie.Need-returns
-returns c = record { next = c .next-run .ensures ∙ ap (stepRun (c .before .before .before .before .before .before .before .before .args .run)) (c .before .before .before .before .before .service-of .ensures); marks = c .before .before .before .mark .ensures ∙ rw (c .before .before .before .before .before .service-of .ensures) }
+returns c form =
+    let m = c .before .before .before in
+    let v = m .before .before in
+    let s = v .before .before .before in
+    record {
+      next = c .next-run .ensures ∙ ap (stepRun (s .args .run)) (v .service-of .ensures form);
+      marks = m .mark .ensures ∙ rw (v .service-of .ensures form);
+    }
 
 pub after-block-spec : {M : Type 1} → statement M
 after-block-spec = tie.close (tie.spec (λ c κs. search needs) (λ c κs. search needs) (λ c κs. search needs) (λ c. search needs) returns)

@@ -20,7 +20,8 @@ returns c =
     let l = f .before .before in
     let t = l .before .before in
     let s = t .before .before .before in
-    seek-found (s .args .text .now) (s .args .from) (t .loop .at) (t .loop .inv) _ (l .line-at2 .ensures) (s .pre .1) (eq-eqb _ _ (sym (f .first-byte .ensures) ∙ c .if1 .taken))
+    seek-found (s .args .text .now) (s .args .from) (t .loop .at) (t .loop .inv) _ (l .line-at2 .ensures) (s .pre .1)
+    (eq-eqb _ _ (sym (f .first-byte .ensures) ∙ c .if1 .taken))
 
 loop-again : tie.Need-loop-again Inv-loop μ-loop
 loop-again c =
@@ -28,7 +29,8 @@ loop-again c =
     let l = f .before .before in
     let t = l .before .before in
     let s = t .before .before .before in
-    seek-next (s .args .text .now) (s .args .from) (t .loop .at) (t .loop .inv) _ (l .line-at2 .ensures) (ne-eqb _ _ (λ z. c .if1 .left (f .first-byte .ensures ∙ z)))
+    seek-next (s .args .text .now) (s .args .from) (t .loop .at) (t .loop .inv) _ (l .line-at2 .ensures)
+    (ne-eqb _ _ (λ z. c .if1 .left (f .first-byte .ensures ∙ z)))
 
 returns-2 : tie.Need-returns-2 Inv-loop μ-loop
 returns-2 c =

@@ -5,24 +5,32 @@ use Rattle.timetbls.proofs.ReadLaws.{blocks-ready, read-stray, read-all
 use Rattle.timetbls.proofs.read_blocks.Statement.{statement}
 use Rattle.timetbls.proofs.read_blocks.Tie as tie
 
+-- THE PLACES AFTER EACH STEP, each from the next
+abbrev start : tie.After-stray-test → tie.Start
+start x = x .before .before .before .before .before .before .before
+
+abbrev passed-of-marks : tie.After-marks → tie.After-enum-told
+passed-of-marks m = m .before .before .before .before .before .before .before .before
+
 add-blocks-requires : tie.Need-add-blocks-requires
 add-blocks-requires c κs =
-    let e = c .before .before .before .before .before .before .before .before .before .before in
+    let e = passed-of-marks (c .before .before) in
     let x = e .before .before in
-    let s = x .before .before .before .before .before .before .before in
-    blocks-ready _ _ _ (s .pre) _ (x .stray-test .ensures) (e .enum-told .given .1) _ none-marked
+    blocks-ready _ _ _ (start x .pre) _ (x .stray-test .ensures) (e .enum-told .given .1) _ none-marked
 
 returns : tie.Need-returns
 returns c =
     let x = c .before .before .before in
-    read-stray _ _ _ _ _ _ _ _ (x .stray-test .ensures) _ (c .before .why .given .1)
+    read-stray _ _ _ _ _ _ _ _ _ (x .stray-test .ensures) _ (c .before .why .given .1)
 
 returns-2 : tie.Need-returns-2
 returns-2 c =
     let y = c .before .before .before in
-    let n = y .before .before .before .before .before .before .before .before .before .before in
-    let e = n .before in
-    read-all _ _ _ _ _ _ _ _ (e .before .before .stray-test .ensures) (e .enum-told .given .1) _ (n .count-for-blocks .ensures) _ _ (y .add-blocks .ensures) (y .add-blocks .kept .1 .1 .1 .0)
+    let m = y .before .before .before in
+    let n = m .before .before .before .before .before .before .before in
+    let e = passed-of-marks m in
+    read-all _ _ _ _ _ _ _ _ _ (e .before .before .stray-test .ensures) (e .enum-told .given .1) _ (n .count-for-blocks .ensures)
+    _ _ (y .add-blocks .ensures) (y .add-blocks .kept .1 .1 .1 .1 .0)
 
 pub read-blocks-spec : {M : Type 1} → statement M
 read-blocks-spec =

@@ -19,7 +19,9 @@ stray-test-spec =
     (λ c κs. search needs)
     (λ c. let k = c .before in
     let f = k .before .before in
-    stray-known _ _ _ (f .before .before .line-at .ensures) _ (f .first-byte .ensures) (k .before .if2 .left) _ (k .is-known .ensures) (c .if3 .taken))
+    stray-known _ _ _ (f .before .before .line-at .ensures) _ (f .first-byte .ensures) (k .before .if2 .left)
+    _ (k .is-known-in-block .ensures) (c .if3 .taken))
     (λ c. let k = c .before in
     let f = k .before .before in
-    stray-unknown _ _ _ (f .before .before .line-at .ensures) _ (f .first-byte .ensures) (k .before .if2 .left) _ (k .is-known .ensures) (c .if3 .left)))
+    stray-unknown _ _ _ (f .before .before .line-at .ensures) _ (f .first-byte .ensures) (k .before .if2 .left)
+    _ (k .is-known-in-block .ensures) (c .if3 .left)))

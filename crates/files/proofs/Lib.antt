@@ -1,5 +1,0 @@
-pub mod TestLaws
-pub mod TextLaws
-pub mod PlainLaws
-pub mod ReadLaws
-pub mod WholeLaws

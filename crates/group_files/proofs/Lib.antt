@@ -1,0 +1,4 @@
+pub mod HashLaws
+pub mod FlatLaws
+pub mod WalkLaws
+pub mod WholeLaws

@@ -1,0 +1,3 @@
+pub mod TestLaws
+pub mod LineLaws
+pub mod StepLaws

@@ -1,0 +1,155 @@
+-- A line that is put to its group: its tests, its row in the table, and where the groups stand after it. Assumes nothing.
+use Prim.Native.Nat.{ℕ, suc, _+_, _-_}
+use mathlib.Core.Path.{_≡_, refl, ap, sym, _∙_}
+use mathlib.Core.List.{List, []}
+use mathlib.Core.Bool.{true, false}
+use native.Mathlib.Omega.{arith}
+use lib.ListN.{length}
+use Rattle.iff.specs.Refusals.{orTest, verdictAt, after}
+use Rattle.iff.specs.Lines.{Line, isHash}
+use Rattle.iff.specs.Tables.{tag, rowWidth, putRow}
+use Rattle.iff.specs.Words.{named}
+use Rattle.iff.specs.declared.GroupFile.{GroupFile}
+use Rattle.iff.specs.declared.File.the-variants.{Groups}
+use Rattle.iff.specs.declared.Form.{Form}
+use Rattle.iff.specs.declared.GroupStand.{GroupStand}
+use Rattle.iff.specs.declared.Reason.{Reason}
+use Rattle.iff.specs.declared.Place.the-variants.{At}
+use Rattle.iff.specs.declared.Test.{Test}
+use Rattle.iff.specs.declared.Test.the-variants.{Passes, Fails}
+use Rattle.iff_rules.specs.Order.{groupMoves, groupStand, mayEnd}
+use Rattle.iff_rules.specs.Rows.{rowOf, Context}
+use Rattle.iff_rules.specs.Load.{groupTest}
+use Rattle.keys.specs.Lookup.{keysIn}
+use Rattle.keys.specs.Blocks.{blockOfRows}
+use Rattle.keys.specs.declared.KeyRun.{KeyRun}
+use Rattle.group_lines.specs.Tests.{groupRowTest, lineVerdict}
+use Rattle.group_lines.specs.Facts.{openRows, Beside, opening, groupFor, runAfter, openAfter}
+use Rattle.group_lines.specs.Facts.{RowMade, RowTested, addDue, lineDue, LineDone}
+use Rattle.group_lines.specs.declared.Open.{Open}
+use Rattle.group_lines.specs.declared.LinePut.{LinePut}
+use Rattle.group_lines.specs.declared.LinePut.the-variants.{Put, Early, Refused}
+use Rattle.group_lines.proofs.TestLaws.{group-split}
+use Rattle.group_lines.proofs.LineLaws.{fails-not}
+
+-- what was not put is nowhere
+early-not : (g : Open) → Early ≡ Put g → ⊥
+early-not g e = let z : _≡_ {A = ℕ} 0 1 = cc in omega arith
+
+refused-not : (r : Reason) (g : Open) → Refused r ≡ Put g → ⊥
+refused-not r g e = let z : _≡_ {A = ℕ} 0 1 = cc in omega arith
+
+module _ (f : GroupFile) (form : Form) (rows : ℕ) (g : Open) (Agree : Context → Type 0) (l : Line) (t : List ℕ) (b : Beside f rows g t) where
+  abbrev seen : List ℕ
+  seen = keysIn (Groups f) t
+
+  module _ (was is : List ℕ) (p : Test) (m : RowMade f form (g .stand) l was is p) where
+    tests-are : (c : Context) → c .form ≡ form
+        → groupTest c f seen (openRows f t rows (g .size)) l
+        ≡ orTest p (groupRowTest c f seen (openRows f t rows (g .size)) (rowOf form (Groups f) l))
+    tests-are c d = rw (group-split c f seen (openRows f t rows (g .size)) l, d, ← b .stands, ← m .test)
+
+    -- the line alone is refused
+    pub tested-no : (r : Reason) → p ≡ Fails r → RowTested f form rows g Agree l t was is (Fails r)
+    tested-no r q =
+        record {
+          test = λ c d a. sym (tests-are c d ∙ rw q);
+          row = λ n. absurd (fails-not r n);
+          used = λ n. absurd (fails-not r n);
+          kept = m .kept;
+        }
+
+    -- or not, and its row is tested
+    pub tested : p ≡ Passes → (r : Test)
+        → ((c : Context) → Agree c → r ≡ groupRowTest c f seen (openRows f t rows (g .size)) is)
+        → RowTested f form rows g Agree l t was is r
+    tested q r e =
+        let s : is ≡ rowOf form (Groups f) l = m .row q in
+        record {
+          test = λ c d a. sym (tests-are c d ∙ rw (q, ← s) (sym (e c a)));
+          row = λ n. s;
+          used = λ n. m .used q;
+          kept = m .kept;
+        }
+
+  -- the table after it
+  module _ (was is : List ℕ) (p : Test) (m : RowTested f form rows g Agree l t was is p) where
+    pub put-not : (r : Reason) → p ≡ Fails r → LineDone f form rows g Agree (addDue f rows g l t) l t t (Refused r)
+    put-not r q =
+        record {
+          verdict = λ c d a. ap (verdictAt (At (Groups f) 0 (suc rows))) (sym q ∙ m .test c d a);
+          put = λ a n. absurd (refused-not r a n);
+          kept = refl;
+        }
+
+    pub put-there : length was ≡ rowWidth (Groups f) → p ≡ Passes → (t′ : List ℕ) → t′ ≡ putRow (length is) t rows is → length t′ ≡ length t
+        → (next : Open) → next ≡ openAfter g (tag is) (named is) → LineDone f form rows g Agree (addDue f rows g l t) l t t′ (Put next)
+    put-there w q t′ e k next z =
+        let s : is ≡ rowOf form (Groups f) l = m .row q in
+        let n : length is ≡ rowWidth (Groups f) = m .kept ∙ w in
+        record {
+          verdict = λ c d a. ap (verdictAt (At (Groups f) 0 (suc rows))) (sym q ∙ m .test c d a);
+          put = λ a x.
+              (let i : a ≡ next = cc in
+              record {
+                group = i ∙ (z ∙ rw s);
+                table = e ∙ rw (n, s);
+                wide = rw (← s) n;
+                used = m .used q;
+              });
+          kept = k;
+        }
+
+-- the group after it: where it stands, and its keys
+pub one-more : (g : Open) (t key : ℕ) (s : GroupStand) (run : KeyRun) → s ≡ groupMoves (g .stand) → run ≡ runAfter (g .run) t key
+    → record { size = g .size + 1; stand = s; run = run } ≡ openAfter g t key
+one-more g t key s run e k = rw (e, k)
+
+-- no rows are open where a group begins
+open-none : (f : GroupFile) (t : List ℕ) (rows : ℕ) → openRows f t rows 0 ≡ []
+unfolding blockOfRows
+open-none f t rows =
+    let z : rows - (rows - 0) ≡ 0 = omega arith in
+    rw z
+
+pub begin-group : (f : GroupFile) (rows : ℕ) (g : Open) (t : List ℕ) → Beside f rows g t → (next : Open) → next ≡ opening (g .run)
+    → Beside f rows next t
+unfolding groupStand after
+begin-group f rows g t b next e =
+    rw e (record { part = omega arith; few = b .few; room = b .room; stands = rw (open-none f t rows); runs = b .runs })
+
+-- a line after a group
+module _ (f : GroupFile) (form : Form) (rows : ℕ) (g : Open) (Agree : Context → Type 0) (l : Line) (t : List ℕ) (b : Beside f rows g t) where
+  -- it opens the next too early
+  pub line-early : isHash l ≡ true → mayEnd f (g .stand) ≡ false
+      → LineDone f form rows (groupFor g l) Agree (lineDue f rows g l t) l t t Early
+  unfolding lineVerdict
+  line-early x q =
+      record {
+        verdict = λ c d a. rw (x, ← b .stands, q);
+        put = λ a n. absurd (early-not a n);
+        kept = refl;
+      }
+
+  -- it opens the next
+  pub line-opens : isHash l ≡ true → mayEnd f (g .stand) ≡ true → (next : Open) → next ≡ opening (g .run) → (is : List ℕ) (r : LinePut)
+      → LineDone f form rows next Agree (addDue f rows next l t) l t is r
+      → LineDone f form rows (groupFor g l) Agree (lineDue f rows g l t) l t is r
+  unfolding lineVerdict
+  line-opens x q next e is r s =
+      record {
+        verdict = λ c d a. s .verdict c d a ∙ rw (x, ← b .stands, q, e, open-none f t rows);
+        put = λ a n. rw (x, ← e) (s .put a n);
+        kept = s .kept;
+      }
+
+  -- or stands in it
+  pub line-joins : isHash l ≡ false → (is : List ℕ) (r : LinePut) → LineDone f form rows g Agree (addDue f rows g l t) l t is r
+      → LineDone f form rows (groupFor g l) Agree (lineDue f rows g l t) l t is r
+  unfolding lineVerdict
+  line-joins x is r s =
+      record {
+        verdict = λ c d a. s .verdict c d a ∙ rw x;
+        put = λ a n. rw x (s .put a n);
+        kept = s .kept;
+      }

@@ -1,0 +1,4 @@
+pub mod TestLaws
+pub mod PlainLaws
+pub mod ReadLaws
+pub mod WholeLaws

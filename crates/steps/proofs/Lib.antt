@@ -1,2 +1,0 @@
-pub mod SettleLaws
-pub mod CountLaws
