@@ -3,7 +3,7 @@ ghost use mathlib.Core.Path.{_≡_};
 ghost use Prim.Native.Nat.{_<_};
 ghost use lib.IntN.{pos};
 ghost use lib.Signed.{mag};
-ghost use Rattle.iff.specs.Days.{leapYear, daysBefore, daysIn, yearsBefore, dayOf, isDay, period, span, inPeriod, dayIn};
+ghost use Rattle.iff.specs.Days.{leapYear, daysBefore, daysIn, yearsBefore, dayOf, isDay, period, span, inPeriod, dayIn, longest};
 ghost use Rattle.iff.specs.Times.{isTime, minutesOf, isTurn, interval, referenceOf, onDay, gapOf};
 
 // The days before each month of a year that is no leap year.
@@ -239,7 +239,7 @@ pub fn to_reference(m: iff::LocalMinutes, earlier: bool, hours: u64) -> iff::Ref
 
 // Minutes on a day, as minutes from day 0 on.
 fn on_day(m: iff::ReferenceMinutes, day: u64) -> i32
-    requires { ⌜ (mag (m .0) < 20000) × (day < 800) ⌝ }
+    requires { ⌜ (mag (m .0) < 20000) × (day < longest) ⌝ }
     ensures { λ r. ⌜ (r ≡ onDay m day) × (mag r < 2000000) ⌝ }
 {
     m.0 + (day * 1440) as i32
@@ -252,7 +252,7 @@ pub fn gap(
     departure: iff::ReferenceMinutes,
     departure_day: u64,
 ) -> i32
-    requires { ⌜ (mag (arrival .0) < 20000) × ((mag (departure .0) < 20000) × ((«arrival_day» < 800) × («departure_day» < 800))) ⌝ }
+    requires { ⌜ (mag (arrival .0) < 20000) × ((mag (departure .0) < 20000) × ((«arrival_day» < longest) × («departure_day» < longest))) ⌝ }
     ensures { λ r. ⌜ r ≡ gapOf arrival «arrival_day» departure «departure_day» ⌝ }
 {
     on_day(departure, departure_day) - on_day(arrival, arrival_day)
