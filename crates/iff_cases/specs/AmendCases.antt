@@ -14,7 +14,7 @@ use Rattle.iff_cases.specs.Claims.{Claim, claim, Hold}
 use Rattle.iff_cases.specs.Opened.{opened}
 use Rattle.iff_cases.specs.Delivery.{small, put, omit, instead, at, edit, files, short, header, block7, block9, other8}
 use Rattle.iff_rules.specs.Load.{loadTable}
-use Rattle.iff_rules.specs.Sound.{sound, rowsOfTables}
+use Rattle.iff_desk.specs.Sound.{sound, rowsOfTables}
 use Rattle.iff_rules.specs.Rows.{contextOf}
 use Rattle.iff_desk.specs.Amend.{editedLength, amendAnswer, amendTimetbls, edited}
 use Rattle.iff_cases.specs.Shown.{Shown, accepted, refused, shown, TIMETBLS}

@@ -9,7 +9,7 @@ use Rattle.iff.specs.Files.{PerFile}
 use Rattle.iff.specs.declared.GroupFile.the-variants.{Timezone}
 use Rattle.iff.specs.declared.File.the-variants.{Groups, Timetbls}
 use Rattle.iff.specs.declared.Reason.the-variants.{NoService, NoStop, NoDate, NoPeriod}
-use Rattle.iff_rules.specs.Sound.{sound}
+use Rattle.iff_desk.specs.Sound.{sound}
 use Rattle.iff_desk.specs.Stops.{stopTime}
 use Rattle.iff_desk.specs.Changing.{change}
 use Rattle.iff_desk.specs.declared.TimeOf.the-variants.{NoTime}

@@ -18,12 +18,12 @@ use Rattle.iff_rules.specs.References.{metByRow, metInBlock, metInGroup}
 use Rattle.iff_rules.specs.Legs.{covered, inRange, legs}
 use Rattle.iff_rules.specs.Load.{firstLineTest, deliveryVerdict, plainTest, plainVerdict, groupTest, groupVerdict, groupsVerdict, blockTest}
 use Rattle.iff_rules.specs.Load.{blockMoves, blockVerdict, timetblsVerdict, fileVerdict, contentsVerdict, loadVerdict, loadAnswer, filled, loadTable}
-use Rattle.iff_rules.specs.Sound.{passes, shaped, soundFirst, soundPlainRow, soundGroupRow, soundGroup, soundGroups, soundBlockRow, standAfterRows}
-use Rattle.iff_rules.specs.Sound.{soundBlock, soundTimetbls, soundRows, soundTable, sound}
-use Rattle.iff_desk.specs.Store.{groupOf, stopAt, recordOn, stationRow, marked, periodOn}
+use Rattle.iff_desk.specs.Sound.{passes, shaped, distinct, soundFirst, soundPlainRow, soundPlain, soundGroupRow, soundGroup, soundGroups, soundBlockRow, standAfterRows}
+use Rattle.iff_desk.specs.Sound.{soundBlock, soundTimetbls, soundRows, soundTable, sound}
+use Rattle.iff_desk.specs.Store.{groupOf, stopAt, recordOn, stationRow, marked, holds, periodOf}
 use Rattle.iff_desk.specs.Running.{runsOn, asked, runningIn, runningDay}
-use Rattle.iff_desk.specs.Stops.{timesBy, stopTimeIn, stopTime}
-use Rattle.iff_desk.specs.Changing.{pairAt, applies, rank, better, best, bestAt, settled, byTime, core, firstHurdle, coreChange, precheck, change}
+use Rattle.iff_desk.specs.Stops.{mayAlight, mayBoard, timesBy, stopTimeIn, stopTime}
+use Rattle.iff_desk.specs.Changing.{pairAt, ridingOn, applies, rank, better, best, bestAt, settled, byTime, core, firstHurdle, coreChange, precheck, change}
 use Rattle.iff_desk.specs.Parts.{seek, seekAfter, isStation, name, nameTest, isHead, isOneBlock, linesNow, linesNowTest}
 use Rattle.iff_desk.specs.Amend.{amendVerdict, amendAnswer, amendTimetbls, edited}
 use Rattle.iff_cases.specs.Text.{textOf, linesOf}
@@ -35,9 +35,9 @@ unfolding allowed digit zeroOrOne front groups flat any all kept position total 
     isTime minutesOf isTurn interval padded joined fill putRow rowsUpTo rising firstRow lineTest mayFollow groupStand goes rowOf blockRow
     blockRowsFrom blocksRows firstRowOf rowsOfLines formOf contextOf firstMeaning rowMeaning groupMeaning blockMeaning freshKey freshTexts
     freshInGroup metByRow metInBlock metInGroup covered inRange legs firstLineTest deliveryVerdict plainTest plainVerdict groupTest groupVerdict
-    groupsVerdict blockTest blockMoves blockVerdict timetblsVerdict fileVerdict contentsVerdict loadVerdict loadAnswer filled loadTable passes shaped
-    soundFirst soundPlainRow soundGroupRow soundGroup soundGroups soundBlockRow standAfterRows soundBlock soundTimetbls soundRows soundTable sound
-    groupOf stopAt recordOn stationRow marked periodOn runsOn asked runningIn runningDay timesBy stopTimeIn stopTime pairAt applies rank better best
+    groupsVerdict blockTest blockMoves blockVerdict timetblsVerdict fileVerdict contentsVerdict loadVerdict loadAnswer filled loadTable passes shaped distinct
+    soundFirst soundPlainRow soundPlain soundGroupRow soundGroup soundGroups soundBlockRow standAfterRows soundBlock soundTimetbls soundRows soundTable sound
+    groupOf stopAt recordOn stationRow marked holds periodOf runsOn asked runningIn runningDay mayAlight mayBoard timesBy stopTimeIn stopTime pairAt ridingOn applies rank better best
     bestAt settled byTime core firstHurdle coreChange precheck change seek seekAfter isStation name nameTest isHead isOneBlock linesNow linesNowTest
     amendVerdict amendAnswer amendTimetbls edited bytes textOf linesOf
 opened = 0

@@ -13,7 +13,7 @@ use Rattle.iff.specs.declared.DayOf.the-variants.{Day, NotADay}
 use Rattle.iff.specs.declared.MinutesOf.the-variants.{Minutes, NoMinutes}
 use Rattle.iff_rules.specs.Meaning.{firstMeaning}
 use Rattle.iff_rules.specs.Legs.{covering, covered, ofKind, reachOf, legs}
-use Rattle.iff_desk.specs.Changing.{rank, better, best, core}
+use Rattle.iff_desk.specs.Changing.{fromKeys, toKeys, rank, better, best, core}
 use Rattle.iff_desk.specs.declared.Source.the-variants.{FromChanges, FromStations, FromXchanges}
 use Rattle.iff_desk.specs.declared.Change.the-variants.{NoShort, Yes, Unsettled}
 use Rattle.iff_desk.specs.declared.Pair.the-variants.{Possibility, NoPair}
@@ -143,8 +143,8 @@ changes =
     claim "P11: gap 0" (core (pos 0) (Possibility 1) 1 NoBest 5) (Yes (pos 0) FromChanges 0) ∷
     claim "P11: gap -1" (core (negsuc 0) (Possibility 1) 1 NoBest 5) (NoShort (negsuc 0) FromChanges 0) ∷
     -- row 100,`*`,`*`,`*` (8) beats `*`,IC,200,IC (7)
-    claim "P12: rank 8" (rank explicitCompany) 8 ∷
-    claim "P12: rank 7" (rank explicitOthers) 7 ∷
+    claim "P12: rank 8" (rank (fromKeys explicitCompany) (toKeys explicitCompany)) 8 ∷
+    claim "P12: rank 7" (rank (fromKeys explicitOthers) (toKeys explicitOthers)) 7 ∷
     claim "P12: 8 beats 7" (better (BestRow 7 20) 8 10) (BestRow 8 10) ∷
     claim "P12: 8 first" (best NoBest (explicitCompany ∷ explicitOthers ∷ [])) (BestRow 8 10) ∷
     claim "P12: 8 last" (best NoBest (explicitOthers ∷ explicitCompany ∷ [])) (BestRow 8 10) ∷

@@ -11,7 +11,7 @@ use Rattle.iff.specs.declared.File.the-variants.{Delivery, Rows, Groups, Timetb
 use Rattle.iff_cases.specs.Claims.{Claim, claim, Hold}
 use Rattle.iff_cases.specs.Opened.{opened}
 use Rattle.iff_cases.specs.Delivery.{at}
-use Rattle.iff_rules.specs.Sound.{sound}
+use Rattle.iff_desk.specs.Sound.{sound}
 use Rattle.iff_cases.specs.Stored.{stored, reword, keeping, tampered}
 
 -- rows and unused places

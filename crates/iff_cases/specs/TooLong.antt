@@ -23,7 +23,7 @@ use Rattle.iff_rules.specs.Rows.{rowsOfFiles, contextOf}
 use Rattle.iff_rules.specs.References.{names}
 use Rattle.iff_rules.specs.Load.{lengthVerdict, presentIn, absenceVerdict, roomVerdict, overFiles, contentsVerdict, loadVerdict, loadAnswer}
 use Rattle.iff_rules.specs.Load.{loadTable}
-use Rattle.iff_rules.specs.Sound.{sound, rowsOfTables}
+use Rattle.iff_desk.specs.Sound.{sound, rowsOfTables}
 use Rattle.iff_desk.specs.Parts.{isOneBlock}
 use Rattle.iff_desk.specs.Amend.{placeOf, editedLength, amendVerdict}
 

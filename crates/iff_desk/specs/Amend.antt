@@ -19,7 +19,7 @@ use Rattle.iff.specs.declared.Answer.{Answer}
 use Rattle.iff_rules.specs.Rows.{blockRows, asBlock, Context, contextOf}
 use Rattle.iff_rules.specs.References.{names}
 use Rattle.iff_rules.specs.Load.{faultUnless, lengthVerdict, roomVerdict, blockVerdict, serviceOf}
-use Rattle.iff_rules.specs.Sound.{sound, rowsOfTables, rowSize, firstSize}
+use Rattle.iff_desk.specs.Sound.{sound, rowsOfTables, rowSize, firstSize}
 use Rattle.iff_desk.specs.Parts.{isOneBlock}
 
 -- the blocks of a table, and a service's place among them, from 0

@@ -10,7 +10,7 @@ use Rattle.iff.specs.Bytes.{percent, ampersand}
 use Rattle.iff.specs.Lists.{kept}
 use Rattle.iff.specs.Refusals.{orTest, firstTest, unless}
 use Rattle.iff.specs.Files.{PerFile}
-use Rattle.iff.specs.Times.{noTime, gapOf}
+use Rattle.iff.specs.Times.{gapOf}
 use Rattle.iff.specs.Tables.{Row}
 use Rattle.iff.specs.Words.{named, fromService, toService, possibility, fromCompany, fromMode, toCompany, toMode, exceptionTime, exceptionFootnote, changeFlag, changeTime}
 use Rattle.iff.specs.declared.Reason.the-variants.{NoPeriod, NotSound}
@@ -18,10 +18,10 @@ use Rattle.iff.specs.declared.Test.{Test}
 use Rattle.iff.specs.declared.Test.the-variants.{Passes, Fails}
 use Rattle.iff_rules.specs.References.{anyCompany, anyMode}
 use Rattle.iff_rules.specs.Legs.{stopsOf}
-use Rattle.iff_rules.specs.Sound.{sound, rowsOfTables}
+use Rattle.iff_desk.specs.Sound.{sound, rowsOfTables}
 use Rattle.iff_desk.specs.Store.{serviceRows, groupOf, stopAt, recordOn, stationRow, dayOn, marked, vectorOf, periodOn, isThere}
 use Rattle.iff_desk.specs.Running.{asked, runsOn, isLeg}
-use Rattle.iff_desk.specs.Stops.{arrivalOf, departureOf, timesBy}
+use Rattle.iff_desk.specs.Stops.{mayAlight, mayBoard, timesBy}
 use Rattle.iff_desk.specs.declared.TimeOf.{TimeOf}
 use Rattle.iff_desk.specs.declared.TimeOf.the-variants.{At, NoTime}
 use Rattle.iff_desk.specs.declared.StopTimes.{StopTimes}
@@ -32,16 +32,22 @@ use Rattle.iff_desk.specs.declared.Source.the-variants.{FromChanges, Fro
 use Rattle.iff_desk.specs.declared.Bar.the-variants.{Pair00, Flag0}
 use Rattle.iff_desk.specs.declared.Change.{Change}
 use Rattle.iff_desk.specs.declared.Change.the-variants.{ChangeRefused, NoBefore, NoBarred, NoShort, Yes, Unsettled}
+use Rattle.iff_desk.specs.declared.Call.{Call}
+use Rattle.iff_desk.specs.declared.Riding.{Riding}
 use Rattle.iff_desk.specs.declared.Pair.{Pair}
 use Rattle.iff_desk.specs.declared.Pair.the-variants.{Possibility, NoPair}
 use Rattle.iff_desk.specs.declared.Best.{Best}
 use Rattle.iff_desk.specs.declared.Best.the-variants.{BestRow, NoBest}
 
--- one side of a change: a service, a stop, a date
+-- one side of a change as it is asked: a service, a stop, a date
 pub record Side : Type 0 where
   pub service : ℕ
   pub stop : ℕ
   pub date : ℕ
+
+-- and with the day counted from the first day
+abbrev pub callOf : PerFile (List Row) → Side → Call
+callOf R A = record { service = A .service; stop = A .stop; day = dayOn R (A .date) }
 
 -- THE NEEDED TIME
 -- "CHANGES pair there"
@@ -52,32 +58,36 @@ pairIn (r ∷ rs) = Possibility (possibility r)
 unfoldable pub pairAt : PerFile (List Row) → ℕ → ℕ → ℕ → Pair
 pairAt R station a b = pairIn (kept (λ r. eqb (fromService r) a && eqb (toService r) b) (drop 1 (groupOf station (R .changes))))
 
--- a key of an XCHANGES row fits: it is the wildcard, or the very company or mode
+-- company and mode of a service on a leg
+unfoldable pub ridingOn : List Row → ℕ → Riding
+ridingOn rs k = record { company = named (recordOn percent k rs); mode = named (recordOn ampersand k rs) }
+
+-- the keys of an XCHANGES row, for either side
+abbrev pub fromKeys : Row → Riding
+fromKeys r = record { company = fromCompany r; mode = fromMode r }
+
+abbrev pub toKeys : Row → Riding
+toKeys r = record { company = toCompany r; mode = toMode r }
+
+-- a key fits: it is the wildcard, or the very company or mode
 abbrev pub fitsKey : ℕ → ℕ → ℕ → Bool
 fitsKey any key k = eqb key any || eqb key k
 
--- company and mode of a service on a leg
-abbrev pub companyOn : List Row → ℕ → ℕ
-companyOn rs k = named (recordOn percent k rs)
-
-abbrev pub modeOn : List Row → ℕ → ℕ
-modeOn rs k = named (recordOn ampersand k rs)
+abbrev pub fits : Riding → Riding → Bool
+fits keys r = fitsKey anyCompany (keys .company) (r .company) && fitsKey anyMode (keys .mode) (r .mode)
 
 -- "An XCHANGES row applies if its four keys fit A on leg i-1 and B on leg j and its vector has 1 on A's date."
-unfoldable pub applies : PerFile (List Row) → List Row → ℕ → List Row → ℕ → ℕ → Row → Bool
-applies R aRows k bRows m date r =
-    fitsKey anyCompany (fromCompany r) (companyOn aRows k)
-    && (fitsKey anyMode (fromMode r) (modeOn aRows k)
-    && (fitsKey anyCompany (toCompany r) (companyOn bRows m)
-    && (fitsKey anyMode (toMode r) (modeOn bRows m)
-    && marked (vectorOf (R .xfootnote) (exceptionFootnote r)) (dayOn R date))))
+unfoldable pub applies : PerFile (List Row) → Riding → Riding → ℕ → Row → Bool
+applies R a b d r = fits (fromKeys r) a && (fits (toKeys r) b && marked (vectorOf (R .xfootnote) (exceptionFootnote r)) d)
 
 -- "Rank, desk: 8, 4, 2, 1 for an explicit from company, from mode, to company, to mode."
 abbrev pub explicit : ℕ → ℕ → ℕ → ℕ
 explicit any key points = cond (eqb key any) 0 points
 
-unfoldable pub rank : Row → ℕ
-rank r = explicit anyCompany (fromCompany r) 8 + explicit anyMode (fromMode r) 4 + explicit anyCompany (toCompany r) 2 + explicit anyMode (toMode r) 1
+unfoldable pub rank : Riding → Riding → ℕ
+rank from to =
+    explicit anyCompany (from .company) 8 + explicit anyMode (from .mode) 4
+    + explicit anyCompany (to .company) 2 + explicit anyMode (to .mode) 1
 
 -- "Highest rank wins, then the larger time."
 unfoldable pub better : Best → ℕ → ℕ → Best
@@ -86,10 +96,10 @@ better (BestRow h s) k t = cond (ltb h k) (BestRow k t) (cond (ltb k h) (BestRow
 
 unfoldable pub best : Best → List Row → Best
 best b [] = b
-best b (r ∷ rs) = best (better b (rank r) (exceptionTime r)) rs
+best b (r ∷ rs) = best (better b (rank (fromKeys r) (toKeys r)) (exceptionTime r)) rs
 
-unfoldable pub bestAt : PerFile (List Row) → ℕ → List Row → ℕ → List Row → ℕ → ℕ → Best
-bestAt R station aRows k bRows m date = best NoBest (kept (applies R aRows k bRows m date) (drop 1 (groupOf station (R .xchanges))))
+unfoldable pub bestAt : PerFile (List Row) → ℕ → Riding → Riding → ℕ → Best
+bestAt R station a b d = best NoBest (kept (applies R a b d) (drop 1 (groupOf station (R .xchanges))))
 
 -- THE VERDICT on a gap
 -- "Gap below needed: No. Otherwise Unsettled if .., else Yes."
@@ -135,8 +145,8 @@ afterHurdles (stop e) t c = NoBefore e
 afterHurdles clear (Fails r) c = ChangeRefused r
 afterHurdles clear Passes c = c
 
--- the core: services that are there, stops and dates that are right, on sound tables
-unfoldable pub coreChange : PerFile (List Row) → Side → Side → Change
+-- the core: services that are there, stops and days that are right, on sound tables
+unfoldable pub coreChange : PerFile (List Row) → Call → Call → Change
 coreChange R A B =
     let aRows = serviceRows R (A .service) in
     let bRows = serviceRows R (B .service) in
@@ -145,23 +155,23 @@ coreChange R A B =
     let a = stopAt aRows (A .stop) in
     let b = stopAt bRows (B .stop) in
     let station = named a in
-    let pa = periodOn R station (A .date) in
-    let pb = periodOn R station (B .date) in
+    let pa = periodOn R (named a) (A .day) in
+    let pb = periodOn R (named b) (B .day) in
     afterHurdles
     (firstHurdle
-    (stopIf (eqb (A .service) (B .service) && eqb (A .date) (B .date)) SameService
-    ∷ stopIf (not (runsOn R aRows k (A .date))) FromRests
-    ∷ stopIf (not (runsOn R bRows m (B .date))) ToRests
+    (stopIf (eqb (A .service) (B .service) && eqb (A .day) (B .day)) SameService
+    ∷ stopIf (not (runsOn R aRows k (A .day))) FromRests
+    ∷ stopIf (not (runsOn R bRows m (B .day))) ToRests
     ∷ stopIf (not (eqb (named a) (named b))) StationsDiffer
-    ∷ stopIf (eqb (arrivalOf a) noTime) NobodyAlights
-    ∷ stopIf (eqb (departureOf b) noTime) NobodyBoards
+    ∷ stopIf (not (mayAlight R aRows (A .stop) (A .day))) NobodyAlights
+    ∷ stopIf (not (mayBoard R bRows (B .stop) (B .day))) NobodyBoards
     ∷ []))
     (firstTest (unless (isThere pa) NoPeriod ∷ unless (isThere pb) NoPeriod ∷ []))
     (core
-    (gapBetween (timesBy pa a .arrival) (dayOn R (A .date)) (timesBy pb b .departure) (dayOn R (B .date)))
+    (gapBetween (timesBy pa a .arrival) (A .day) (timesBy pb b .departure) (B .day))
     (pairAt R station (A .service) (B .service))
     (changeFlag (stationRow R station))
-    (bestAt R station aRows k bRows m (A .date))
+    (bestAt R station (ridingOn aRows k) (ridingOn bRows m) (A .day))
     (changeTime (stationRow R station)))
 
 -- "12, 13, 14, for A then B each"
@@ -177,7 +187,7 @@ changeAfter (Fails r) c = ChangeRefused r
 
 abbrev pub changeIn : Bool → PerFile (List Row) → Side → Side → Change
 changeIn false R A B = ChangeRefused NotSound
-changeIn true R A B = changeAfter (precheck R A B) (coreChange R A B)
+changeIn true R A B = changeAfter (precheck R A B) (coreChange R (callOf R A) (callOf R B))
 
 unfoldable pub change : PerFile (List ℕ) → Side → Side → Change
 change T A B = changeIn (sound T) (rowsOfTables T) A B

@@ -1,3 +1,4 @@
+pub mod Sound
 pub mod Answers
 pub mod Store
 pub mod Running

@@ -12,14 +12,14 @@ use Rattle.iff.specs.declared.Reason.the-variants.{NoService, NoStop, NoDate, N
 use Rattle.iff.specs.declared.Test.{Test}
 use Rattle.iff.specs.declared.Test.the-variants.{Passes, Fails}
 use Rattle.iff_rules.specs.Legs.{stopsOf}
-use Rattle.iff_rules.specs.Sound.{sound, rowsOfTables}
+use Rattle.iff_desk.specs.Sound.{sound, rowsOfTables}
 use Rattle.iff_desk.specs.Store.{serviceRows, isEmpty, recordOn, isValid, dayOn, marked, vectorOf}
 use Rattle.iff_desk.specs.declared.Running.{Running}
 use Rattle.iff_desk.specs.declared.Running.the-variants.{Runs, Rests, RunningRefused}
 
 -- "A service runs on leg k on a date, that of its first departure, if the vector of that leg's `-` record has 1 on it, counted from the first day."
 unfoldable pub runsOn : PerFile (List Row) → List Row → ℕ → ℕ → Bool
-runsOn R rs k date = marked (vectorOf (R .footnote) (named (recordOn dash k rs))) (dayOn R date)
+runsOn R rs k d = marked (vectorOf (R .footnote) (named (recordOn dash k rs))) d
 
 -- legs are 1 to n - 1
 abbrev pub isLeg : List Row → ℕ → Bool
@@ -38,7 +38,7 @@ runningAfter Passes b = runs b
 runningAfter (Fails r) b = RunningRefused r
 
 unfoldable pub runningIn : PerFile (List Row) → ℕ → ℕ → ℕ → Running
-runningIn R s k date = runningAfter (asked R s (isLeg (serviceRows R s) k) date) (runsOn R (serviceRows R s) k date)
+runningIn R s k date = runningAfter (asked R s (isLeg (serviceRows R s) k) date) (runsOn R (serviceRows R s) k (dayOn R date))
 
 -- "Calls that are lent a loaded store test 16 first."
 abbrev pub running : Bool → PerFile (List Row) → ℕ → ℕ → ℕ → Running

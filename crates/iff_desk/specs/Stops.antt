@@ -1,7 +1,7 @@
 -- "Stop time: service, stop, date: station, local and reference arrival and departure, each perhaps none. 12, 13, 14, 15. It does not ask whether the service runs."
 use Prim.Native.Nat.{ℕ}
 use mathlib.Core.List.{List, [], _∷_}
-use mathlib.Core.Bool.{Bool, true, false, _&&_, cond}
+use mathlib.Core.Bool.{Bool, true, false, _&&_, not, cond}
 use lib.Dec.{eqb, leb}
 use lib.IntN.{pos}
 use Rattle.iff.specs.Bytes.{greater, less, plus, dash}
@@ -17,8 +17,8 @@ use Rattle.iff.specs.declared.Test.the-variants.{Passes, Fails}
 use Rattle.iff.specs.declared.MinutesOf.{MinutesOf}
 use Rattle.iff.specs.declared.MinutesOf.the-variants.{Minutes, NoMinutes}
 use Rattle.iff_rules.specs.Legs.{stopsOf}
-use Rattle.iff_rules.specs.Sound.{sound, rowsOfTables}
-use Rattle.iff_desk.specs.Store.{serviceRows, stopAt, periodOn, isThere}
+use Rattle.iff_desk.specs.Sound.{sound, rowsOfTables}
+use Rattle.iff_desk.specs.Store.{serviceRows, stopAt, dayOn, periodOn, isThere}
 use Rattle.iff_desk.specs.Running.{asked}
 use Rattle.iff_desk.specs.declared.TimeOf.{TimeOf}
 use Rattle.iff_desk.specs.declared.TimeOf.the-variants.{At, NoTime}
@@ -32,6 +32,13 @@ arrivalOf r = cond (eqb (tag r) greater) noTime (words.arrival r)
 
 abbrev pub departureOf : Row → ℕ
 departureOf r = cond (eqb (tag r) less) noTime (cond (eqb (tag r) plus) (words.departure r) (stopTimeOf r))
+
+-- somebody may alight at stop i, or board there, on a day: 9999 says that nobody does
+unfoldable pub mayAlight : PerFile (List Row) → List Row → ℕ → ℕ → Bool
+mayAlight R rs i d = not (eqb (arrivalOf (stopAt rs i)) noTime)
+
+unfoldable pub mayBoard : PerFile (List Row) → List Row → ℕ → ℕ → Bool
+mayBoard R rs i d = not (eqb (departureOf (stopAt rs i)) noTime)
 
 -- a time by a zone's period: on the zone's clock, and on the reference clock
 abbrev pub timeBy : Row → MinutesOf → TimeOf
@@ -54,7 +61,7 @@ unfoldable pub stopTimeIn : PerFile (List Row) → ℕ → ℕ → ℕ → StopT
 stopTimeIn R s i date =
     let rs = serviceRows R s in
     let r = stopAt rs i in
-    let p = periodOn R (named r) date in
+    let p = periodOn R (named r) (dayOn R date) in
     stopTimeAfter (orTest (asked R s (isStopNumber rs i) date) (unless (isThere p) NoPeriod)) (timesBy p r)
 
 abbrev pub stopTimes : Bool → PerFile (List Row) → ℕ → ℕ → ℕ → StopTime

@@ -6,12 +6,14 @@ use lib.ListN.{length, getD, drop}
 use lib.Dec.{eqb, ltb, leb}
 use Rattle.iff.specs.Lists.{Group, groups, members, kept}
 use Rattle.iff.specs.Files.{PerFile}
-use Rattle.iff.specs.Days.{inPeriod, dayIn}
+use Rattle.iff.specs.Days.{inPeriod, dayIn, dayOf, within}
 use Rattle.iff.specs.Tables.{Row, word, tag, isHashRow, keyed, keyTag, keyWord}
 use Rattle.iff.specs.Words as words
 use Rattle.iff.specs.Words.{named, periodFirst, periodLast, stationZone}
 use Rattle.iff.specs.declared.RowFile.the-variants.{Stations}
 use Rattle.iff.specs.declared.File.the-variants.{Rows}
+use Rattle.iff.specs.declared.DayOf.{DayOf}
+use Rattle.iff.specs.declared.DayOf.the-variants.{Day, NotADay}
 use Rattle.iff_rules.specs.Order.{isStop}
 use Rattle.iff_rules.specs.Rows.{firstOf}
 use Rattle.iff_rules.specs.Legs.{lies, ofKind, stopsOf}
@@ -58,6 +60,11 @@ lastDay R = words.lastDay (firstOf (R .delivery))
 abbrev pub isValid : PerFile (List Row) → ℕ → Bool
 isValid R date = inPeriod (firstDay R) date (lastDay R)
 
+-- the number of a day
+abbrev pub dayNumber : DayOf → ℕ
+dayNumber (Day n) = n
+dayNumber NotADay = 0
+
 -- "counted from the first day"
 abbrev pub dayOn : PerFile (List Row) → ℕ → ℕ
 dayOn R date = dayIn (firstDay R) date
@@ -70,10 +77,21 @@ marked v d = eqb (word v (1 + d / 64) / 2 ^ (d % 64) % 2) 1
 abbrev pub vectorOf : List Row → ℕ → Row
 vectorOf rs k = getD (groupOf k rs) 1 noRow
 
--- the period of a station's zone that holds a day
-unfoldable pub periodOn : PerFile (List Row) → ℕ → ℕ → Row
-periodOn R station date =
-    firstOf (kept (λ r. inPeriod (periodFirst r) date (periodLast r)) (drop 1 (groupOf (stationZone (stationRow R station)) (R .timezone))))
+-- a day of validity, counted from the first day, as a day's number
+abbrev pub numberOn : PerFile (List Row) → ℕ → ℕ
+numberOn R d = dayNumber (dayOf (firstDay R)) + d
+
+-- a zone's period holds a day
+unfoldable pub holds : ℕ → Row → Bool
+holds day r = within (dayOf (periodFirst r)) (Day day) (dayOf (periodLast r))
+
+-- the period of a zone that holds a day
+unfoldable pub periodOf : List Row → ℕ → ℕ → Row
+periodOf rs zone day = firstOf (kept (holds day) (drop 1 (groupOf zone rs)))
+
+-- of a station's own zone, on a day of validity
+abbrev pub periodOn : PerFile (List Row) → ℕ → ℕ → Row
+periodOn R station d = periodOf (R .timezone) (stationZone (stationRow R station)) (numberOn R d)
 
 abbrev pub isThere : Row → Bool
 isThere r = not (eqb (tag r) 0)

@@ -61,6 +61,19 @@ pub enum Change {
     Unsettled(i32, Source, u64),
 }
 
+// One side of a change: a service, a stop of it, and a day counted from the first day of validity.
+pub struct Call {
+    pub service: u64,
+    pub stop: u64,
+    pub day: u64,
+}
+
+// A company and a mode: those of a service on a leg, or the keys of an exception for one side.
+pub struct Riding {
+    pub company: u64,
+    pub mode: u64,
+}
+
 // The row of CHANGES for two services at a station: its possibility.
 pub enum Pair {
     Possibility(u64),

@@ -8,7 +8,7 @@ use Rattle.iff.specs.declared.File.{File}
 use Rattle.iff.specs.declared.Answer.{Answer}
 use Rattle.iff.specs.declared.Test.{Test}
 use Rattle.iff_rules.specs.Load.{loadAnswer, loadTable}
-use Rattle.iff_rules.specs.Sound.{sound}
+use Rattle.iff_desk.specs.Sound.{sound}
 use Rattle.iff_desk.specs.Running.{runningDay}
 use Rattle.iff_desk.specs.Stops.{stopTime}
 use Rattle.iff_desk.specs.Changing.{Side, change}

@@ -5,4 +5,3 @@ pub mod Unique
 pub mod References
 pub mod Legs
 pub mod Load
-pub mod Sound

@@ -1,16 +1,16 @@
 -- "Soundness. Tables are sound when the needed first lines are there, rows meet every rule here on kept fields and file length, and unused places are zero."
 use Prim.Native.Nat.{ℕ, zero, suc, _+_, _*_}
 use mathlib.Core.List.{List, [], _∷_, _++_, map}
-use mathlib.Core.Bool.{Bool, true, false, _&&_, cond}
+use mathlib.Core.Bool.{Bool, true, false, _&&_, not, cond}
 use lib.ListN.{length, getD, take, drop}
 use lib.Dec.{eqb, ltb, leb}
 use Rattle.iff.specs.Bytes.{hash, at}
-use Rattle.iff.specs.Lists.{Group, front, groups, members, all, allOf, total, same}
+use Rattle.iff.specs.Lists.{Group, front, groups, members, all, allOf, total, same, has}
 use Rattle.iff.specs.Files.{PerFile, of, perFile, inOrder, needed, limit}
 use Rattle.iff.specs.Columns.{Field, firstFields, fieldsOf, picture}
 use Rattle.iff.specs.Values.{wordsRight, wordCount}
 use Rattle.iff.specs.Tables.{Row, tag, letterless, isHashRow, rowWidth, rowsIn, allZero, keysOf, rising}
-use Rattle.iff.specs.Words.{ownCompany, rises, named, lineNumber, lineCount, stopCount}
+use Rattle.iff.specs.Words.{ownCompany, rises, lineNumber, lineCount, stopCount}
 use Rattle.iff.specs.declared.RowFile.{RowFile}
 use Rattle.iff.specs.declared.RowFile.the-variants.{Company, Country, Trnsmode, Stations}
 use Rattle.iff.specs.declared.GroupFile.{GroupFile}
@@ -20,19 +20,23 @@ use Rattle.iff.specs.declared.File.the-variants.{Delivery, Rows, Groups, Timetb
 use Rattle.iff.specs.declared.Stand.{Stand}
 use Rattle.iff.specs.declared.InBlock.{InBlock}
 use Rattle.iff.specs.declared.Form.{Form}
 use Rattle.iff_rules.specs.Order.{mayFollow, groupStand, mayEnd, goes, isGoes, finished, isStop}
 use Rattle.iff_rules.specs.Rows.{flag, lineOne, Context, contextOf, firstOf}
 use Rattle.iff_rules.specs.Meaning.{firstMeaning, rowMeaning, groupMeaning, blockMeaning}
-use Rattle.iff_rules.specs.Unique.{freshKey, freshInGroup}
+use Rattle.iff_rules.specs.Unique.{freshInGroup}
 use Rattle.iff_rules.specs.References.{names, metByRow, metInGroup, metInBlock}
 use Rattle.iff_rules.specs.Legs.{stopsOf, reachOf, legs}
 use Rattle.iff_rules.specs.Load.{blockStart, blockMoves}
 
 -- the entries of a list in turn, each in the state that those before it leave: all pass
 module _ {S A : Type 0} (ok : S → A → Bool) (next : S → A → S) where
   unfoldable pub passes : S → List A → Bool
   passes st [] = true
   passes st (x ∷ xs) = ok st x && passes (next st x) xs
+
+-- one more at the end of those so far
+abbrev pub followedBy : {A : Type 0} → List A → A → List A
+followedBy xs x = xs ++ (x ∷ [])
 
 -- the rows of eleven tables
 abbrev pub rowsOfTables : PerFile (List ℕ) → PerFile (List Row)
@@ -41,6 +45,10 @@ rowsOfTables T = perFile (λ f. rowsIn f (of T f))
 -- a row's tag and words are those of a record with these fields, and its other words are zero
 unfoldable pub shaped : List Field → Row → Bool
 shaped fs r = wordsRight (drop 1 r) fs && allZero (drop (suc (wordCount fs)) r)
+
+-- "Unique", of the keys of a file: none is one of those before it
+unfoldable pub distinct : List ℕ → Bool
+distinct ks = passes (λ seen k. not (has k seen)) followedBy [] ks
 
 -- A FIRST LINE'S ROW: as DELIVERY's on what is kept, with the derived words that belong there
 unfoldable pub soundFirst : File → Row → Row → List Row → Bool
@@ -55,45 +63,40 @@ soundFirst f delivery r later =
     ∷ allZero (drop (6 + length (lineOne f)) r)
     ∷ [])
 
--- A ROW of a file without record letters, after some rows
-unfoldable pub soundPlainRow : Context → RowFile → List Row → Row → Bool
-soundPlainRow c f earlier r =
+-- A ROW of a file without record letters, after so many rows of it
+unfoldable pub soundPlainRow : Context → RowFile → ℕ → Row → Bool
+soundPlainRow c f count r =
     allOf
     (eqb (tag r) letterless
     ∷ shaped (fieldsOf (c .form) (Rows f) (tag r)) r
-    ∷ rowMeaning f (length earlier) r
-    ∷ freshKey (Rows f) (keysOf (Rows f) earlier) r
+    ∷ rowMeaning f count r
     ∷ metByRow c f r
     ∷ [])
 
-abbrev pub soundPlain : Context → RowFile → List Row → Bool
-soundPlain c f rs = passes (soundPlainRow c f) (λ earlier r. earlier ++ (r ∷ [])) [] rs
+unfoldable pub soundPlain : Context → RowFile → List Row → Bool
+soundPlain c f rs = passes (soundPlainRow c f) (λ count r. suc count) 0 rs
 
--- A ROW OF A GROUP
-unfoldable pub soundGroupRow : Context → GroupFile → List ℕ → List Row → Row → Bool
-soundGroupRow c f seen earlier r =
+-- A ROW OF A GROUP, after some rows of the group
+unfoldable pub soundGroupRow : Context → GroupFile → List Row → Row → Bool
+soundGroupRow c f earlier r =
     allOf
     (mayFollow f (groupStand earlier) (tag r)
     ∷ shaped (fieldsOf (c .form) (Groups f) (tag r)) r
     ∷ groupMeaning f r
-    ∷ freshKey (Groups f) seen r
     ∷ freshInGroup f (drop 1 earlier) r
     ∷ metInGroup c f r
     ∷ [])
 
-unfoldable pub soundGroup : Context → GroupFile → List ℕ → Group Row → Bool
-soundGroup c f seen g =
-    passes (soundGroupRow c f seen) (λ earlier r. earlier ++ (r ∷ [])) [] (members g) && mayEnd f (groupStand (members g))
+unfoldable pub soundGroup : Context → GroupFile → Group Row → Bool
+soundGroup c f g = passes (soundGroupRow c f) followedBy [] (members g) && mayEnd f (groupStand (members g))
 
 abbrev pub empty : List Row → Bool
 empty [] = true
 empty (r ∷ rs) = false
 
-abbrev pub seeing : List ℕ → Group Row → List ℕ
-seeing seen g = seen ++ (named (g .top) ∷ [])
-
+-- no row stands before the first group
 unfoldable pub soundGroups : Context → GroupFile → List Row → Bool
-soundGroups c f rs = empty (front isHashRow rs) && passes (soundGroup c f) seeing [] (groups isHashRow rs)
+soundGroups c f rs = empty (front isHashRow rs) && all (soundGroup c f) (groups isHashRow rs)
 
 -- A ROW OF A TIMETBLS BLOCK: its number in the block is its last word; the `#` row counts the block's lines and stops beside its own field
 abbrev pub ownWords : Row → Row
@@ -103,14 +106,13 @@ pub record InRows : Type 0 where
   pub block : InBlock
   pub line : ℕ
 
-unfoldable pub soundBlockRow : Context → List ℕ → InRows → Row → Bool
-soundBlockRow c seen st r =
+unfoldable pub soundBlockRow : Context → InRows → Row → Bool
+soundBlockRow c st r =
     allOf
     (isGoes (goes (st .block .stand) (tag r))
     ∷ shaped (fieldsOf (c .form) Timetbls (tag r)) (ownWords r)
     ∷ eqb (lineNumber r) (st .line)
     ∷ blockMeaning (st .block .stops) r
-    ∷ freshKey Timetbls seen r
     ∷ metInBlock c r
     ∷ [])
 
@@ -125,10 +127,10 @@ unfoldable pub standAfterRows : InBlock → List Row → Stand
 standAfterRows st [] = st .stand
 standAfterRows st (r ∷ rs) = standAfterRows (blockMoves st (tag r)) rs
 
-unfoldable pub soundBlock : Context → List ℕ → Group Row → Bool
-soundBlock c seen g =
+unfoldable pub soundBlock : Context → Group Row → Bool
+soundBlock c g =
     allOf
-    (passes (soundBlockRow c seen) nextRow rowsStart (members g)
+    (passes (soundBlockRow c) nextRow rowsStart (members g)
     ∷ finished (standAfterRows blockStart (members g))
     ∷ legs reachOf (members g)
     ∷ eqb (lineCount (g .top)) (length (members g))
@@ -136,9 +138,9 @@ soundBlock c seen g =
     ∷ [])
 
 unfoldable pub soundTimetbls : Context → List Row → Bool
-soundTimetbls c rs = empty (front isHashRow rs) && passes (soundBlock c) seeing [] (groups isHashRow rs)
+soundTimetbls c rs = empty (front isHashRow rs) && all (soundBlock c) (groups isHashRow rs)
 
--- the rows after the first line's
+-- the rows after the first line's: what each kind of file asks of them
 abbrev pub soundLater : Context → File → List Row → Bool
 soundLater c Delivery rs = empty rs
 soundLater c (Rows f) rs = soundPlain c f rs
@@ -157,6 +159,7 @@ soundRows c delivery f [] = true
 soundRows c delivery f (r ∷ rs) =
     allOf
     (soundFirst f delivery r rs
+    ∷ distinct (keysOf f rs)
     ∷ soundLater c f rs
     ∷ leb (firstSize + total (rowSize (c .form) f) rs) limit
     ∷ [])
