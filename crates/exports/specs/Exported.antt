@@ -2,12 +2,40 @@
 use Prim.Native.Nat.{ℕ}
 use mathlib.Core.Path.{_≡_}
 use mathlib.Core.List.{List}
+use lib.IntN.{ℤ}
 use Rattle.iff.specs.Files.{PerFile, of}
+use Rattle.iff.specs.Lines.{lines}
 use Rattle.iff.specs.declared.File.{File}
 use Rattle.iff_rules.specs.Load.{loadAnswer, loadTable}
-use Rattle.answers.specs.Numbers.{answerWords}
+use Rattle.iff_desk.specs.Parts.{name, nameTest, isOneBlock, linesNow, linesNowTest}
+use Rattle.iff_desk.specs.declared.StopTime.{StopTime}
+use Rattle.iff_desk.specs.declared.Change.{Change}
+use Rattle.answers.specs.Numbers.{answerWords, partWords, linesWords, stopTimeWords, stopTimeMinutes, changeWords, changeGap}
+use Rattle.parts.specs.Bounds.{partOf, Inside, namePart, textNow, partNow}
 
 -- A LOAD, as `load::load` promises it, with its answer in numbers
 pub record LoadedInNumbers (F : PerFile (List ℕ)) (R : PerFile ℕ) (words : List ℕ) (T : PerFile (List ℕ)) : Type 0 where
   pub answers : words ≡ answerWords (loadAnswer F R)
   pub leaves : (f : File) → of T f ≡ loadTable f F R
+
+-- A NAME by its bounds in STATIONS, from a byte on and before another; both are 0 where there is none
+pub record NamedInNumbers (stations : List ℕ) (short : ℕ) (words : List ℕ) : Type 0 where
+  pub answers : words ≡ partWords (nameTest stations short) (namePart stations short .from) (namePart stations short .to)
+  pub inside : Inside stations (namePart stations short)
+  pub part : partOf stations (namePart stations short .from) (namePart stations short .to) ≡ name stations short
+
+-- LINES NOW by their bounds in the block where it is the service's, else in the text
+pub record LinesInNumbers (text block : List ℕ) (service : ℕ) (words : List ℕ) : Type 0 where
+  pub answers : words
+      ≡ linesWords (linesNowTest text block service) (isOneBlock service (lines block)) (partNow text block service .from) (partNow text block service .to)
+  pub inside : Inside (textNow text block service) (partNow text block service)
+  pub part : partOf (textNow text block service) (partNow text block service .from) (partNow text block service .to) ≡ linesNow text block service
+
+-- A STOP'S TIMES, and a CHANGE: numbers, and minutes, which have a sign
+pub record TimedInNumbers (a : StopTime) (words : List ℕ) (minutes : List ℤ) : Type 0 where
+  pub answers : words ≡ stopTimeWords a
+  pub times : minutes ≡ stopTimeMinutes a
+
+pub record ChangedInNumbers (a : Change) (words : List ℕ) (minutes : List ℤ) : Type 0 where
+  pub answers : words ≡ changeWords a
+  pub gap : minutes ≡ changeGap a

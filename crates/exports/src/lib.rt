@@ -1,7 +1,14 @@
 // The proved library for programs in other languages. A slice is handed over as a pointer and a length, an array as a pointer.
+use iff::Test;
 ghost use lib.ListN.{length};
+ghost use mathlib.Core.Path.{_≡_};
 ghost use Rattle.iff.specs.Files.{eleven};
-ghost use Rattle.exports.specs.Exported.{LoadedInNumbers};
+ghost use Rattle.iff_desk.specs.Sound.{sound as areSound};
+ghost use Rattle.iff_desk.specs.Running.{runningDay};
+ghost use Rattle.iff_desk.specs.Stops.{stopTime};
+ghost use Rattle.iff_desk.specs.Changing.{change as changeTo};
+ghost use Rattle.answers.specs.Numbers.{soundNumber, runningWords};
+ghost use Rattle.exports.specs.Exported.{LoadedInNumbers, NamedInNumbers, LinesInNumbers, TimedInNumbers, ChangedInNumbers};
 
 // A load: eleven files, eleven tables, and where the answer goes. It asks nothing of them.
 #[no_mangle]
@@ -68,4 +75,212 @@ pub extern "C" fn calyxcabin_load(
         t_xchanges,
     );
     *answer = answers::words_of(loaded);
+}
+
+// A station's name: the file it stands in, its short name, and where the answer goes.
+#[no_mangle]
+pub extern "C" fn calyxcabin_name(stations: &[u8], short: u64, answer: &mut [u64; 3])
+    ensures { λ _. ⌜ NamedInNumbers (now (stations .entry)) short (now (answer .exit)) ⌝ }
+{
+    let part = parts::name_part(stations, short);
+    let test = part.test;
+    *answer = answers::part_words(test, part.from, part.to);
+}
+
+// A service's lines now: the TIMETBLS file, an amendment's block or an empty one, and where the answer goes.
+#[no_mangle]
+pub extern "C" fn calyxcabin_lines_now(
+    text: &[u8],
+    block: &[u8],
+    service: u64,
+    answer: &mut [u64; 4],
+)
+    ensures { λ _. ⌜ LinesInNumbers (now (text .entry)) (now (block .entry)) service (now (answer .exit)) ⌝ }
+{
+    if parts::is_one_block(block, service) {
+        *answer = answers::lines_words(Test::Passes, true, 0, block.len());
+        return;
+    }
+    let part = parts::lines_part(text, service);
+    let test = part.test;
+    *answer = answers::lines_words(test, false, part.from, part.to);
+}
+
+// 16: whether eleven tables are sound, 0 or 16. Every question below tests it first.
+#[no_mangle]
+pub extern "C" fn calyxcabin_is_sound(
+    delivery: &[u64],
+    company: &[u64],
+    country: &[u64],
+    trnsmode: &[u64],
+    timezone: &[u64],
+    stations: &[u64],
+    footnote: &[u64],
+    timetbls: &[u64],
+    changes: &[u64],
+    xfootnote: &[u64],
+    xchanges: &[u64],
+) -> u64
+    ensures { λ r. ⌜ r ≡ soundNumber (areSound
+        (eleven (now (delivery .entry)) (now (company .entry)) (now (country .entry)) (now (trnsmode .entry)) (now (timezone .entry))
+        (now (stations .entry)) (now (footnote .entry)) (now (timetbls .entry)) (now (changes .entry)) (now (xfootnote .entry))
+        (now (xchanges .entry)))) ⌝ }
+{
+    let sound = sound::is_sound(
+        delivery,
+        company,
+        country,
+        trnsmode,
+        timezone,
+        stations,
+        footnote,
+        timetbls,
+        changes,
+        xfootnote,
+        xchanges,
+    );
+    answers::sound_number(sound)
+}
+
+// Running day: eleven tables, service, leg and date, and where the answer goes.
+#[no_mangle]
+pub extern "C" fn calyxcabin_running_day(
+    delivery: &[u64],
+    company: &[u64],
+    country: &[u64],
+    trnsmode: &[u64],
+    timezone: &[u64],
+    stations: &[u64],
+    footnote: &[u64],
+    timetbls: &[u64],
+    changes: &[u64],
+    xfootnote: &[u64],
+    xchanges: &[u64],
+    service: u64,
+    leg: u64,
+    date: u64,
+    answer: &mut [u64; 2],
+)
+    ensures { λ _. ⌜ now (answer .exit) ≡ runningWords (runningDay
+        (eleven (now (delivery .entry)) (now (company .entry)) (now (country .entry)) (now (trnsmode .entry)) (now (timezone .entry))
+        (now (stations .entry)) (now (footnote .entry)) (now (timetbls .entry)) (now (changes .entry)) (now (xfootnote .entry))
+        (now (xchanges .entry)))
+        service leg date) ⌝ }
+{
+    let told = desk::running_day(
+        delivery,
+        company,
+        country,
+        trnsmode,
+        timezone,
+        stations,
+        footnote,
+        timetbls,
+        changes,
+        xfootnote,
+        xchanges,
+        service,
+        leg,
+        date,
+    );
+    *answer = answers::running_words(told);
+}
+
+// Stop time: eleven tables, service, stop and date, and where the answer and its minutes go.
+#[no_mangle]
+pub extern "C" fn calyxcabin_stop_time(
+    delivery: &[u64],
+    company: &[u64],
+    country: &[u64],
+    trnsmode: &[u64],
+    timezone: &[u64],
+    stations: &[u64],
+    footnote: &[u64],
+    timetbls: &[u64],
+    changes: &[u64],
+    xfootnote: &[u64],
+    xchanges: &[u64],
+    service: u64,
+    stop: u64,
+    date: u64,
+    answer: &mut [u64; 4],
+    minutes: &mut [i32; 4],
+)
+    ensures { λ _. ⌜ TimedInNumbers (stopTime
+        (eleven (now (delivery .entry)) (now (company .entry)) (now (country .entry)) (now (trnsmode .entry)) (now (timezone .entry))
+        (now (stations .entry)) (now (footnote .entry)) (now (timetbls .entry)) (now (changes .entry)) (now (xfootnote .entry))
+        (now (xchanges .entry)))
+        service stop date) (now (answer .exit)) (now (minutes .exit)) ⌝ }
+{
+    let told = desk::stop_time(
+        delivery,
+        company,
+        country,
+        trnsmode,
+        timezone,
+        stations,
+        footnote,
+        timetbls,
+        changes,
+        xfootnote,
+        xchanges,
+        service,
+        stop,
+        date,
+    );
+    *answer = answers::stop_time_words(told);
+    *minutes = answers::stop_time_minutes(told);
+}
+
+// Change: eleven tables, a service, a stop of it and its date, the same for the other service, and where the answer and the gap go.
+#[no_mangle]
+pub extern "C" fn calyxcabin_change(
+    delivery: &[u64],
+    company: &[u64],
+    country: &[u64],
+    trnsmode: &[u64],
+    timezone: &[u64],
+    stations: &[u64],
+    footnote: &[u64],
+    timetbls: &[u64],
+    changes: &[u64],
+    xfootnote: &[u64],
+    xchanges: &[u64],
+    from_service: u64,
+    from_stop: u64,
+    from_date: u64,
+    to_service: u64,
+    to_stop: u64,
+    to_date: u64,
+    answer: &mut [u64; 7],
+    gap: &mut [i32; 1],
+)
+    ensures { λ _. ⌜ ChangedInNumbers (changeTo
+        (eleven (now (delivery .entry)) (now (company .entry)) (now (country .entry)) (now (trnsmode .entry)) (now (timezone .entry))
+        (now (stations .entry)) (now (footnote .entry)) (now (timetbls .entry)) (now (changes .entry)) (now (xfootnote .entry))
+        (now (xchanges .entry)))
+        (record { service = «from_service»; stop = «from_stop»; date = «from_date» })
+        (record { service = «to_service»; stop = «to_stop»; date = «to_date» })) (now (answer .exit)) (now (gap .exit)) ⌝ }
+{
+    let told = desk::change(
+        delivery,
+        company,
+        country,
+        trnsmode,
+        timezone,
+        stations,
+        footnote,
+        timetbls,
+        changes,
+        xfootnote,
+        xchanges,
+        from_service,
+        from_stop,
+        from_date,
+        to_service,
+        to_stop,
+        to_date,
+    );
+    *answer = answers::change_words(told);
+    *gap = answers::change_gap(told);
 }

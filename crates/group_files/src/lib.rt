@@ -106,7 +106,7 @@ fn add_groups(
 }
 
 // The same for CHANGES, which alone names services: their places are found before the first line. There are 131071 first slots for them, which is a
-// prime number, and eight more for those that the last of these are too few for.
+// prime number, and as many more as are tried for a key.
 fn add_placed(
     file: GroupFile,
     form: Form,
@@ -127,7 +127,7 @@ fn add_placed(
         (λ c. groupsVerdict c file (lines (drop from (now (text .entry))))) (firstIn file (now (t .entry)))
         (map (rowOf form (Groups file)) (lines (drop from (now (text .entry))))) (now (t .entry)) (now (t .exit)) r ⌝ }
 {
-    let mut places = [0u32; 131079];
+    let mut places = [0u32; 131135];
     keys::index_services(services, counts.services, &mut places);
     add_groups(
         file,

@@ -2,13 +2,16 @@
 use Prim.{tt}
 use Prim.Native.Nat.{ℕ}
 use mathlib.Core.Path.{refl}
-use mathlib.Core.List.{List, [], _∷_}
-use Rattle.iff.specs.Files.{perFile}
+use mathlib.Core.List.{List, [], _∷_, _++_}
+use lib.ListN.{take}
+use Rattle.iff.specs.Files.{PerFile, perFile}
 use Rattle.iff_cases.specs.Claims.{Claim, claim, Hold}
 use Rattle.iff_cases.specs.Opened.{opened}
-use Rattle.iff_cases.specs.Stored.{stored, keeping, tampered}
+use Rattle.iff_cases.specs.Delivery.{at}
+use Rattle.iff_cases.specs.Stored.{stored, reword, keeping, tampered, AAA, CCC}
+use Rattle.iff_rules.specs.References.{anyCompany, anyMode}
 use Rattle.iff.specs.declared.GroupFile.the-variants.{Changes, Xfootnote, Xchanges}
-use Rattle.iff.specs.declared.File.the-variants.{Groups}
+use Rattle.iff.specs.declared.File.the-variants.{Groups, Timetbls}
 use lib.IntN.{pos, negsuc}
 use Rattle.iff_desk.specs.Changing.{Side, change}
 use Rattle.iff.specs.declared.Reason.the-variants.{NoService, NoStop, NoDate, NotSound}
@@ -148,3 +151,73 @@ absentFiles =
 pub absentFiles-hold : Hold absentFiles
 unfolding opened
 absentFiles-hold = (refl, (refl, tt))
+
+-- XCHANGES with some rows for one station, and no pairs
+abbrev except : ℕ → List ℕ → PerFile (List ℕ)
+except station rows =
+    keeping 0 (Groups Changes) (at (Groups Xchanges) (λ t. take 7 t ++ (35 ∷ station ∷ 0 ∷ 0 ∷ 0 ∷ 0 ∷ 0 ∷ rows)) stored)
+
+abbrev IC : ℕ
+IC = 0x49432020
+
+abbrev BOAT : ℕ
+BOAT = 0x424F4154
+
+-- rows that differ in one key and in their times: to company, to mode, from company, from mode
+abbrev byToCompany : PerFile (List ℕ)
+byToCompany =
+    except CCC
+    (45 ∷ 100 ∷ BOAT ∷ 100 ∷ anyMode ∷ 20 ∷ 1
+    ∷ 45 ∷ 100 ∷ BOAT ∷ 200 ∷ anyMode ∷ 40 ∷ 1
+    ∷ [])
+
+abbrev byToMode : PerFile (List ℕ)
+byToMode =
+    except CCC
+    (45 ∷ 100 ∷ BOAT ∷ anyCompany ∷ BOAT ∷ 21 ∷ 1
+    ∷ 45 ∷ 100 ∷ BOAT ∷ anyCompany ∷ IC ∷ 41 ∷ 1
+    ∷ [])
+
+abbrev byFromCompany : PerFile (List ℕ)
+byFromCompany =
+    except AAA
+    (45 ∷ 100 ∷ anyMode ∷ 100 ∷ BOAT ∷ 25 ∷ 1
+    ∷ 45 ∷ 200 ∷ anyMode ∷ 100 ∷ BOAT ∷ 22 ∷ 1
+    ∷ [])
+
+abbrev byFromMode : PerFile (List ℕ)
+byFromMode =
+    except AAA
+    (45 ∷ 200 ∷ BOAT ∷ 100 ∷ BOAT ∷ 23 ∷ 1
+    ∷ 45 ∷ 200 ∷ IC ∷ 100 ∷ BOAT ∷ 26 ∷ 1
+    ∷ [])
+
+-- service 9 leaves AAA at 0315, on its leg 3, where its company is 100 and no more 200
+abbrev leavingAAA : PerFile (List ℕ)
+leavingAAA =
+    reword Timetbls 27 3 315
+    (except AAA
+    (45 ∷ 200 ∷ IC ∷ 200 ∷ anyMode ∷ 12 ∷ 1
+    ∷ 45 ∷ 200 ∷ IC ∷ 100 ∷ anyMode ∷ 10 ∷ 1
+    ∷ []))
+
+-- "its four keys fit A on leg i-1 and B on leg j", each key by itself
+abbrev pub byKeys : List Claim
+byKeys =
+    claim "to company 100" (change byToCompany (side 7 2 1011615) (side 7 2 2011615)) (Yes (pos 1480) FromXchanges 20) ∷
+    claim "to company 200" (change byToCompany (side 7 2 1011615) (side 9 2 2011615)) (Yes (pos 120) FromXchanges 40) ∷
+    claim "to mode BOAT" (change byToMode (side 7 2 1011615) (side 7 2 2011615)) (Yes (pos 1480) FromXchanges 21) ∷
+    claim "to mode IC" (change byToMode (side 7 2 1011615) (side 8 1 3011615)) (Yes (pos 1440) FromXchanges 41) ∷
+    -- service 9 has IC on leg 1 and BOAT on leg 2
+    claim "to mode of leg j" (change byToMode (side 7 2 1011615) (side 9 2 2011615)) (Yes (pos 120) FromXchanges 21) ∷
+    -- service 9 has company 200 on leg 2 and 100 on leg 3
+    claim "from company of leg i-1" (change byFromCompany (side 9 3 1011615) (side 7 1 1011615)) (Yes (pos 30) FromXchanges 22) ∷
+    claim "from company 100" (change byFromCompany (side 7 3 1011615) (side 7 1 2011615)) (Yes (pos 90) FromXchanges 25) ∷
+    claim "to company of leg j" (change leavingAAA (side 8 3 1011615) (side 9 3 1011615)) (Yes (pos 14) FromXchanges 10) ∷
+    claim "from mode BOAT" (change byFromMode (side 9 3 1011615) (side 7 1 1011615)) (Yes (pos 30) FromXchanges 23) ∷
+    claim "from mode IC" (change byFromMode (side 8 3 1011615) (side 7 1 1011615)) (Yes (pos 29) FromXchanges 26) ∷
+    []
+
+pub byKeys-hold : Hold byKeys
+unfolding opened
+byKeys-hold = (refl, (refl, (refl, (refl, (refl, (refl, (refl, (refl, (refl, (refl, tt))))))))))

@@ -21,6 +21,7 @@ pub mod ChangeCases
 pub mod PartCases
 pub mod AmendCases
 pub mod Soundness
+pub mod SoundRules
 pub mod TooLong
 pub mod LineCases
 pub mod AnswerCases

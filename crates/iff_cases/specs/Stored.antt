@@ -1,8 +1,8 @@
 -- The eleven tables of the small delivery, word by word. Codes are packed, first byte highest: `NL  ` is 0x4E4C2020.
 use Prim.Native.Nat.{ℕ, _+_, _-_, _*_}
 use mathlib.Core.List.{List, [], _∷_, _++_}
-use lib.ListN.{length, take, replicate, set}
-use Rattle.iff.specs.Files.{PerFile}
+use lib.ListN.{length, take, drop, replicate, set}
+use Rattle.iff.specs.Files.{PerFile, of, perFile}
 use Rattle.iff.specs.Tables.{rowWidth}
 use Rattle.iff.specs.declared.RowFile.the-variants.{Company}
 use Rattle.iff.specs.declared.File.{File}
@@ -191,6 +191,14 @@ rooms =
 -- another word in row i, word k of a file's table, both counted from 0
 abbrev pub reword : File → ℕ → ℕ → ℕ → PerFile (List ℕ) → PerFile (List ℕ)
 reword f i k x T = at f (λ t. set t (i * rowWidth f + k) x) T
+
+-- another word k in the first row of every table
+abbrev pub rewordFirsts : ℕ → ℕ → PerFile (List ℕ) → PerFile (List ℕ)
+rewordFirsts k x T = perFile (λ f. set (of T f) k x)
+
+-- the words of some new rows, before row i
+abbrev pub insertRows : File → ℕ → List ℕ → PerFile (List ℕ) → PerFile (List ℕ)
+insertRows f i ws T = at f (λ t. take (i * rowWidth f) t ++ (ws ++ drop (i * rowWidth f) t)) T
 
 -- the first n rows of a file's table, and no more
 abbrev pub keeping : ℕ → File → PerFile (List ℕ) → PerFile (List ℕ)

@@ -1,12 +1,13 @@
--- Refusal 1, which no case of a few lines shows: a law about lengths. "A load tests 1 .. over the files in order."
+-- Refusal 1, and soundness of file lengths, which no case of a few lines shows: laws about lengths. "A load tests 1 .. over the files in order."
 use Prim.{Unit, tt}
-use Prim.Native.Nat.{ℕ, _<_}
+use Prim.Native.Nat.{ℕ, _+_, _<_}
 use mathlib.Core.Path.{_≡_, refl, ap, _∙_}
 use mathlib.Core.List.{List, [], _∷_, _++_, map}
-use mathlib.Core.Bool.{Bool, true, false}
+use mathlib.Core.Bool.{Bool, true, false, and-false}
 use lib.ListN.{length, replicate}
 use lib.Dec.{leb}
 use borrow.Author.Tests.{lt-leb}
+use Rattle.iff.specs.Lists.{all, allOf, total}
 use Rattle.iff.specs.Refusals.{orElse, firstFault, answer}
 use Rattle.iff.specs.Files.{PerFile, of, inOrder, limit}
 use Rattle.iff.specs.declared.File.{File}
@@ -19,11 +20,12 @@ use Rattle.iff.specs.declared.Verdict.{Verdict}
 use Rattle.iff.specs.declared.Verdict.the-variants.{Fault}
 use Rattle.iff.specs.declared.Answer.the-variants.{Refused}
 use Rattle.iff.specs.Lines.{lines}
-use Rattle.iff_rules.specs.Rows.{rowsOfFiles, contextOf}
+use Rattle.iff.specs.Tables.{Row}
+use Rattle.iff_rules.specs.Rows.{rowsOfFiles, Context, contextOf, firstOf}
 use Rattle.iff_rules.specs.References.{names}
 use Rattle.iff_rules.specs.Load.{lengthVerdict, presentIn, absenceVerdict, roomVerdict, overFiles, contentsVerdict, loadVerdict, loadAnswer}
 use Rattle.iff_rules.specs.Load.{loadTable}
-use Rattle.iff_desk.specs.Sound.{sound, rowsOfTables}
+use Rattle.iff_desk.specs.Sound.{rowsOfTables, rowSize, firstSize, soundRows, soundTable, sound}
 use Rattle.iff_desk.specs.Parts.{isOneBlock}
 use Rattle.iff_desk.specs.Amend.{placeOf, editedLength, amendVerdict}
 
@@ -109,3 +111,41 @@ unfolding amendVerdict firstFault
 amendment-too-long T s b ok one there h =
     let R = rowsOfTables T in
     rw (ok, one, there, lt-leb (editedLength (contextOf R) (placeOf s (R .timetbls)) (R .timetbls) b) limit h)
+
+-- SOUNDNESS: "rows meet every rule here on kept fields and file length". Rows that stand for a longer file are not sound, whatever else they hold
+one-not : (p : File → Bool) (earlier : List File) (f : File) (later : List File) → p f ≡ false → all p (earlier ++ (f ∷ later)) ≡ false
+unfolding all
+one-not p [] f later e = rw e
+one-not p (g ∷ gs) f later e = rw (one-not p gs f later e, and-false)
+
+abbrev fileSize : Context → File → List Row → ℕ
+fileSize c f rs = firstSize + total (rowSize (c .form) f) rs
+
+rows-too-long : (c : Context) (delivery : Row) (f : File) (r : Row) (rs : List Row) → limit < fileSize c f rs
+    → soundRows c delivery f (r ∷ rs) ≡ false
+unfolding soundRows allOf
+rows-too-long c delivery f r rs h = rw (lt-leb (fileSize c f rs) limit h, and-false, and-false, and-false)
+
+table-too-long : (T : PerFile (List ℕ)) (f : File) (r : Row) (rs : List Row) → of (rowsOfTables T) f ≡ (r ∷ rs)
+    → limit < fileSize (contextOf (rowsOfTables T)) f rs → soundTable (contextOf (rowsOfTables T)) (rowsOfTables T) f (of T f) ≡ false
+unfolding soundTable allOf
+table-too-long T f r rs e h =
+    rw (
+      ap (soundRows (contextOf (rowsOfTables T)) (firstOf (rowsOfTables T .delivery)) f) e
+          ∙ rows-too-long (contextOf (rowsOfTables T)) (firstOf (rowsOfTables T .delivery)) f r rs h,
+      and-false,
+    )
+
+pub tables-too-long : (T : PerFile (List ℕ)) (earlier : List File) (f : File) (later : List File) → inOrder ≡ earlier ++ (f ∷ later)
+    → (r : Row) (rs : List Row) → of (rowsOfTables T) f ≡ (r ∷ rs) → limit < fileSize (contextOf (rowsOfTables T)) f rs → sound T ≡ false
+unfolding sound
+tables-too-long T earlier f later i r rs e h =
+    let R = rowsOfTables T in
+    let p : File → Bool = λ g. soundTable (contextOf R) R g (of T g) in
+    let q : all p inOrder ≡ false = ap (all p) i ∙ one-not p earlier f later (table-too-long T f r rs e h) in
+    rw q
+
+-- TIMETBLS
+pub timetbls-not-sound : (T : PerFile (List ℕ)) (r : Row) (rs : List Row) → rowsOfTables T .timetbls ≡ (r ∷ rs)
+    → limit < fileSize (contextOf (rowsOfTables T)) Timetbls rs → sound T ≡ false
+timetbls-not-sound T r rs e h = tables-too-long T beforeTimetbls Timetbls (Groups Changes ∷ Groups Xfootnote ∷ Groups Xchanges ∷ []) refl r rs e h

@@ -12,3 +12,4 @@ pub mod AnswerLaws
 pub mod LineLaws
 pub mod TestsLaws
 pub mod MeetsLaws
+pub mod DateLaws

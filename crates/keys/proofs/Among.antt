@@ -3,7 +3,7 @@ use Prim.Native.Nat.{ℕ, zero, suc, _+_, _-_, _*_, _/_, _≤_, _<_}
 use mathlib.Core.Path.{_≡_, refl, ap, sym, _∙_}
 use mathlib.Core.List.{List}
 use mathlib.Core.Bool.{Bool, true, false, _||_, cond, true≢false}
-use native.Mathlib.Nat.{sub-zero}
+use native.Mathlib.Nat.{sub-zero, le-div-iff-mul-le}
 use native.Mathlib.Omega.{arith}
 use borrow.Author.Tests.{ltb-true, ltb-false}
 use lib.Dec.{ltb}
@@ -15,6 +15,7 @@ use Rattle.iff.specs.declared.RowOf.the-variants.{Row as RowIs, NoRow}
 use Rattle.iff.specs.Lists.{has, any}
 use Rattle.iff.specs.Tables.{Row, rowWidth, rowAt, rowsIn, keyTag, keyWord, keysOf, keyed}
 use Rattle.tables.proofs.Rows.{row-in-table, rows-most}
+use Rattle.tables.proofs.Widths.{widths}
 use Rattle.tables.proofs.Keys.{has-keys}
 use Rattle.tables.proofs.First.{found}
 use Rattle.keys.specs.Blocks.{blockOfRows, rowsBetween}
@@ -29,7 +30,7 @@ at-most n most = go (ltb n most) refl
     go true q = omega (arith, ltb-true n most q)
     go false q = omega arith
 
-at-most-all : (n most : ℕ) → n ≤ most → atMost n most ≡ n
+pub at-most-all : (n most : ℕ) → n ≤ most → atMost n most ≡ n
 at-most-all n most h = go (ltb n most) refl
   where
     go : (b : Bool) → ltb n most ≡ b → cond b n most ≡ n
@@ -41,7 +42,7 @@ or-later : (a b : Bool) → b ≡ true → (a || b) ≡ true
 or-later true b e = refl
 or-later false b e = e
 
-any-row : (p : Row → Bool) (w : ℕ) (t : List ℕ) (i k j : ℕ) → i ≤ j → j < i + k → p (rowAt w t j) ≡ true → any p (blockOfRows w t i k) ≡ true
+pub any-row : (p : Row → Bool) (w : ℕ) (t : List ℕ) (i k j : ℕ) → i ≤ j → j < i + k → p (rowAt w t j) ≡ true → any p (blockOfRows w t i k) ≡ true
 unfolding any blockOfRows
 any-row p w t i zero j l h e = absurd (omega arith)
 any-row p w t i (suc k) j l h e = go (ltb i j) refl (λ m n. any-row p w t (suc i) k j m n e)
@@ -117,3 +118,10 @@ keys-counted f t n e =
     let w = rowWidth f in
     let a : atMost n (length t / w) ≡ length (rowsIn f t) = at-most-all n (length t / w) (omega (arith, rows-most w (length t / w) t)) ∙ e in
     ap (keysOf f) (ap (rowsBetween w t 0) a ∙ between-in-table w t 0 (length (rowsIn f t)) (omega arith) (omega arith) ∙ rw (sub-zero, take-length))
+
+-- as many as there is room for
+pub keys-there : (f : File) (t : List ℕ) (n : ℕ) → n * rowWidth f ≤ length t → keysAmong f n t ≡ keysOf f (rowsBetween (rowWidth f) t 0 n)
+unfolding keysAmong
+keys-there f t n h =
+    ap (λ (m : ℕ). keysOf f (rowsBetween (rowWidth f) t 0 m))
+    (at-most-all n (length t / rowWidth f) (le-div-iff-mul-le (widths f .some) .1 h))

@@ -1,8 +1,9 @@
 -- Some rows of a table: of its own rows, of those it was filled with, and one at a time. Assumes nothing.
 use Prim.Native.Nat.{ℕ, zero, suc, _+_, _-_, _*_, _/_, _≤_, _<_}
 use mathlib.Core.Path.{_≡_, refl, ap, _∙_}
-use mathlib.Core.List.{List, []}
+use mathlib.Core.List.{List, [], _∷_, _++_}
 use mathlib.Core.Bool.{Bool, true, false}
+use native.Mathlib.Nat.{add-zero}
 use native.Mathlib.Numerals.{add-one}
 use native.Mathlib.Omega.{arith}
 use lib.ListN.{length, take, drop}
@@ -53,3 +54,24 @@ module _ (p : Row → Bool) (w : ℕ) (t : List ℕ) (to i : ℕ) where
     one-on g =
         let z : to - i ≡ suc (to - suc i) = omega arith in
         rw (z, ← e, g, add-one)
+
+-- with one row more, at the start and at the end
+pub between-first : (w : ℕ) (t : List ℕ) (i to : ℕ) → i < to → rowsBetween w t i to ≡ rowAt w t i ∷ rowsBetween w t (suc i) to
+unfolding blockOfRows
+between-first w t i to h =
+    let z : to - i ≡ suc (to - suc i) = omega arith in
+    rw z
+
+block-last : (w : ℕ) (t : List ℕ) (i k : ℕ) → blockOfRows w t i (suc k) ≡ blockOfRows w t i k ++ (rowAt w t (i + k) ∷ [])
+unfolding blockOfRows
+block-last w t i zero = rw add-zero
+block-last w t i (suc k) =
+    let z : suc i + k ≡ i + suc k = omega arith in
+    ap (λ (l : List Row). rowAt w t i ∷ l) (rw z at (block-last w t (suc i) k))
+
+pub between-next : (w : ℕ) (t : List ℕ) (from i : ℕ) → from ≤ i
+    → rowsBetween w t from (suc i) ≡ rowsBetween w t from i ++ (rowAt w t i ∷ [])
+between-next w t from i h =
+    let z : suc i - from ≡ suc (i - from) = omega arith in
+    let y : from + (i - from) ≡ i = omega arith in
+    ap (blockOfRows w t from) z ∙ rw y at (block-last w t from (i - from))

@@ -1,4 +1,5 @@
 pub mod Blocks
 pub mod Lookup
 pub mod Runs
+pub mod Places
 pub mod Marks

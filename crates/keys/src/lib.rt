@@ -9,13 +9,14 @@ ghost use Rattle.iff.specs.Lists.{has};
 ghost use Rattle.iff.specs.Tables.{rowWidth, rowsIn, keyTag, keyWord};
 ghost use Rattle.iff.specs.declared.File.the-variants.{Timetbls};
 ghost use Rattle.keys.specs.Lookup.{keysIn, atMost, keysAmong, HitRow, FoundRow};
+ghost use Rattle.keys.specs.Places.{probes, few, placeOf};
 ghost use Rattle.keys.specs.Marks.{slots, slotOf, otherOf, withMarks, Marked};
 ghost use Rattle.keys.specs.Runs.{noKeys, stillRises, stepRun, runOf};
 
 // KEYS
 
 // The first word of the rows that name something.
-fn key_tag(file: iff::File) -> u64
+pub fn key_tag(file: iff::File) -> u64
     ensures { λ r. ⌜ r ≡ keyTag file ⌝ }
 {
     match file {
@@ -66,6 +67,14 @@ fn rows_among(t: &[u64], w: usize, used: usize) -> usize
     requires { ⌜ 0 < w ⌝ }
     ensures { λ r. ⌜ r ≡ atMost used (length (now (t .entry)) / w) ⌝ }
 {
+    // A product is quicker than a division, and where the rows in use are in the table it says the same.
+    if used < 4294967296 {
+        if w < 4294967296 {
+            if used * w <= t.len() {
+                return used;
+            }
+        }
+    }
     let room = t.len() / w;
     if used < room {
         return used;
@@ -212,14 +221,27 @@ fn found_by_blocks(t: &[u64], used: usize, key: u64) -> iff::RowOf
 
 // PLACES: the row of each key, as a hint. A row that it leads to is tested, so nothing rests on what stands there.
 
-// The first slot for a key, of as many as there are. Eight are tried, so the last eight are no first slots. A caller who lends a prime number of
-// slots and eight has the keys spread: codes end in blanks, and a power of two would put most of them into one slot.
-fn place_of(key: u64, slots: usize) -> usize
-    requires { ⌜ 8 < slots ⌝ }
-    ensures { λ r. ⌜ r + 8 < slots ⌝ }
+// How many slots are tried for a key. The keys of several tables share the slots, and a number may be a key in each of them, so that some keys
+// want the same slot; with so many to try a key next to never finds none free where half of the slots are.
+pub const PROBES: usize = 64;
+
+// So many that a product with 32 bits is a word.
+fn at_most_32_bits(n: u64) -> u64
+    ensures { λ r. ⌜ r ≡ few n ⌝ }
 {
-    let firsts = slots - 8;
-    (key % (firsts as u64)) as usize
+    if n < 4294967296 { n } else { 4294967295 }
+}
+
+// The first slot for a key, of as many as there are; the last ones are no first slots. A caller who lends a prime number of slots and PROBES more
+// has the keys spread: codes end in blanks, and a power of two would put most of them into one slot. Numbers come in runs, which the factor takes
+// apart, so that the runs of two tables do not fill up one stretch. What is left of a key by the first number, times the factor, fits a word.
+pub fn place_of(key: u64, slots: usize) -> usize
+    requires { ⌜ probes < slots ⌝ }
+    ensures { λ r. ⌜ (r ≡ placeOf key slots) × (r + probes < slots) ⌝ }
+{
+    let firsts = at_most_32_bits((slots - PROBES) as u64);
+    let spread = key % 4294967291 * 2654435761 % 4294967296;
+    (spread * firsts / 4294967296) as usize
 }
 
 // A row's number out of its slot.
@@ -229,8 +251,8 @@ fn place_row(place: u32) -> usize
     place as usize
 }
 
-// Puts a key's row into the first free slot of eight. Row 0 is the first line's, so 0 is a free slot. Where none is free, or there are too few slots,
-// or the number is too wide for a slot, the key is left out, and is searched for.
+// Puts a key's row into the first free slot of those for it. Row 0 is the first line's, so 0 is a free slot. Where none is free, or there are too
+// few slots, or the number is too wide for a slot, the key is left out, and is searched for.
 fn put_place(places: &mut [u32], key: u64, row: usize)
     ensures { λ _. ⌜ length (now (places .exit)) ≡ length (now (places .entry)) ⌝ }
 {
@@ -238,12 +260,12 @@ fn put_place(places: &mut [u32], key: u64, row: usize)
         return;
     }
     let slots = places.len();
-    if slots <= 8 {
+    if slots <= PROBES {
         return;
     }
     let place = row as u32;
     let mut at = place_of(key, slots);
-    let end = at + 8;
+    let end = at + PROBES;
     while at < end {
         if places[at] == 0 {
             places[at] = place;
@@ -290,7 +312,7 @@ fn found_by_place(file: iff::File, t: &[u64], used: usize, places: &[u32], key: 
     ensures { λ r. ⌜ HitRow file used (now (t .entry)) key r ⌝ }
 {
     let slots = places.len();
-    if slots <= 8 {
+    if slots <= PROBES {
         return iff::RowOf::NoRow;
     }
     let w = tables::row_width(file);
@@ -298,7 +320,7 @@ fn found_by_place(file: iff::File, t: &[u64], used: usize, places: &[u32], key: 
     let col = key_word(file);
     let rows = rows_among(t, w, used);
     let mut at = place_of(key, slots);
-    let end = at + 8;
+    let end = at + PROBES;
     while at < end {
         let row = place_row(places[at]);
         if row == 0 {

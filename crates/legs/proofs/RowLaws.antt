@@ -125,7 +125,7 @@ ranges form n c j (l ∷ ls) =
     rw (range-alike reachOf n (blockRow form n c j l) (lineRow form n (l .body)) (alike form n c j l), ranges form n c (suc j) ls)
 
 -- the records of a kind, counted among all
-kind-times : (x k : ℕ) (rs : List Row) → covering k (ofKind x rs) ≡ total (times x k) rs
+pub kind-times : (x k : ℕ) (rs : List Row) → covering k (ofKind x rs) ≡ total (times x k) rs
 unfolding total kept times
 kind-times x k [] = refl
 kind-times x k (r ∷ rs) = go (eqb (tag r) x) refl (kind-times x k rs)

@@ -92,9 +92,9 @@ pub record Ranged (n : ℕ) (s : Span) : Type 0 where
   pub to : s .last ≤ n
 
 module _ (r : Row) (n x : ℕ) (e : tag r ≡ x) (s : Span) (o : SpanOf r s) where
-  pub span-ranged : (room : ℕ) → Markable r n x room → Ranged n s
-  span-ranged room m =
-      let q : ranged n r ≡ true = ranged-of n x r (m .kind) e (m .within) in
+  pub range-of : covers x ≡ true → inRange reachOf n r ≡ true → Ranged n s
+  range-of k w =
+      let q : ranged n r ≡ true = ranged-of n x r k e w in
       let b : (ltb (firstStop r) (lastStop r) && leb (lastStop r) n) ≡ true = and-right (leb 1 (firstStop r)) _ q in
       record {
         from = rw (o .first) (leb-true 1 (firstStop r) (and-left (leb 1 (firstStop r)) _ q));
@@ -102,7 +102,10 @@ module _ (r : Row) (n x : ℕ) (e : tag r ≡ x) (s : Span) (o : SpanOf r s) whe
         to = rw (o .last) (leb-true (lastStop r) n (and-right (ltb (firstStop r) (lastStop r)) _ b));
       }
 
-  times-same : (k : ℕ) → times x k r ≡ within (s .first) (s .last) k
+  pub span-ranged : (room : ℕ) → Markable r n x room → Ranged n s
+  span-ranged room m = range-of (m .kind) (m .within)
+
+  pub times-same : (k : ℕ) → times x k r ≡ within (s .first) (s .last) k
   unfolding times
   times-same k = rw (eq-eqb (tag r) x e, o .first, o .last)
 
@@ -122,7 +125,7 @@ module _ (r : Row) (n x : ℕ) (e : tag r ≡ x) (s : Span) (o : SpanOf r s) whe
       }
 
 -- one of another kind leaves the marks
-times-other : (r : Row) (x k : ℕ) → (tag r ≡ x → ⊥) → times x k r ≡ 0
+pub times-other : (r : Row) (x k : ℕ) → (tag r ≡ x → ⊥) → times x k r ≡ 0
 unfolding times
 times-other r x k q = rw (ne-eqb (tag r) x q)
 

@@ -18,7 +18,7 @@ ghost use Rattle.legs.specs.Sight.{recordWidth, CanBePut, LegibleBlock, 
 ghost use Rattle.legs.specs.Tally.{Tally};
 
 // As many as `iff::limits::MOST_STOPS`: n stops have one leg less, and there is no leg 0.
-const MARKS: usize = 998;
+pub const MARKS: usize = 998;
 
 // The words of a row of TIMETBLS but the last, which is the line's number in its block.
 const RECORD_WORDS: usize = 6;
@@ -43,14 +43,14 @@ fn mark_legs(marks: &mut [u8], first: u64, last: u64) -> bool
 }
 
 // Leg k goes from stop k to k + 1, so n stops have one leg less.
-fn legs_of(n: usize) -> usize
+pub fn legs_of(n: usize) -> usize
     ensures { λ r. ⌜ r ≡ n - 1 ⌝ }
 {
     if n == 0 { 0 } else { n - 1 }
 }
 
 // Legs 1 to `legs` are marked.
-fn all_marked(marks: &[u8], legs: usize) -> bool
+pub fn all_marked(marks: &[u8], legs: usize) -> bool
     requires { ⌜ legs < length (now marks) ⌝ }
     ensures { λ r. ⌜ r ≡ onceTo legs (λ k. getD (now (marks .entry)) k 0) ⌝ }
 {

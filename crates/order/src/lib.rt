@@ -222,6 +222,16 @@ pub fn goes(stand: Stand, letter: u8) -> Next
     }
 }
 
+// The same of a row's tag. What is no byte is no letter, and leads nowhere.
+pub fn goes_by_tag(stand: Stand, tag: u64) -> Next
+    ensures { λ r. ⌜ r ≡ goes stand tag ⌝ }
+{
+    if tag < 256 {
+        return goes(stand, tag as u8);
+    }
+    Next::NotHere
+}
+
 // A block may end here.
 pub fn is_finished(stand: Stand) -> bool
     ensures { λ r. ⌜ r ≡ finished stand ⌝ }

@@ -11,8 +11,9 @@ use lib.Seq.{take-all}
 use Rattle.iff.specs.Bytes.{hash, at}
 use Rattle.iff.specs.Lists.{all}
 use Rattle.iff.specs.Lines.{Line, lines, isHash}
-use Rattle.iff_desk.specs.Parts.{seek, seekAfter, isHead, inner, isOneBlock, columns44To73, linesNow, linesNowTest, found}
-use Rattle.iff.specs.declared.Reason.the-variants.{NoService}
+use Rattle.iff_desk.specs.Parts.{seekAfter, isHead, inner, isOneBlock, found}
+use Rattle.iff_desk.specs.Parts.{nameAt, columns44To73, name, nameTest, headAt, upTo, serviceLines, linesNow, linesNowTest}
+use Rattle.iff.specs.declared.Reason.the-variants.{NoService, NoStation}
 use Rattle.iff.specs.declared.Test.the-variants.{Passes, Fails}
 use Rattle.iff_desk.specs.declared.Offset.{Offset}
 use Rattle.iff_desk.specs.declared.Offset.the-variants.{From, NotFound}
@@ -20,13 +21,25 @@ use Rattle.text.specs.declared.LineSpan.{LineSpan}
 use Rattle.text.specs.Spans.{spanLine, LineAt}
 use Rattle.text.proofs.LineLaws.{lines-end}
 use Rattle.parts.specs.Wants.{follows}
+use Rattle.parts.specs.Bounds.{partOf, nameFrom, namePart, endAt, linesFrom, linesPart, textNow, partNow}
 
--- A NAME where its row was found, and where none was
-pub name-at : (t : List ℕ) (i : ℕ) (w : Offset) → w ≡ From i → take (i + 73 - (i + 43)) (drop (i + 43) t) ≡ columns44To73 t w
-name-at t i w e = let k : i + 73 - (i + 43) ≡ 30 = omega arith in rw (e, k)
+-- A NAME by its bounds
+module _ (t : List ℕ) (short : ℕ) where
+  pub name-holds : partOf t (namePart t short .from) (namePart t short .to) ≡ name t short
+  unfolding namePart name
+  name-holds = go (nameAt t short)
+    where
+      go : (o : Offset) → partOf t (nameFrom o .from) (nameFrom o .to) ≡ columns44To73 t o
+      go (From i) = let k : i + 73 - (i + 43) ≡ 30 = omega arith in rw k
+      go NotFound = refl
 
-pub name-none : (t : List ℕ) (w : Offset) → w ≡ NotFound → [] ≡ columns44To73 t w
-name-none t w e = rw e
+  pub name-tested : namePart t short .test ≡ nameTest t short
+  unfolding namePart nameTest
+  name-tested = go (nameAt t short)
+    where
+      go : (o : Offset) → nameFrom o .test ≡ found o (Fails NoStation)
+      go (From i) = refl
+      go NotFound = refl
 
 -- all lines pass two tests where they pass both at once
 and-four : (a b c d : Bool) → ((a && b) && (c && d)) ≡ ((a && c) && (b && d))
@@ -116,33 +129,59 @@ module _ (service : ℕ) (t : List ℕ) (s : LineSpan) (l : LineAt t 0 s) where
   unfolding isHead all
   block-rest e h = sym (rw (l .head, block-of, e, h))
 
--- LINES NOW
+-- LINES NOW by their bounds
+module _ (t : List ℕ) (s : ℕ) where
+  lines-hold : partOf t (linesPart t s .from) (linesPart t s .to) ≡ serviceLines t (headAt t s)
+  unfolding linesPart
+  lines-hold = go (headAt t s)
+    where
+      upto : (i : ℕ) (o : Offset) → partOf t i (endAt t o) ≡ upTo t i o
+      upto i (From j) = refl
+      upto i NotFound = take-all (length t - i) (drop i t) (rw length-drop (omega arith))
+
+      go : (o : Offset) → partOf t (linesFrom t o .from) (linesFrom t o .to) ≡ serviceLines t o
+      go (From i) = upto i (seekAfter isHash i (lines (drop i t)))
+      go NotFound = refl
+
+  lines-tested : linesPart t s .test ≡ found (headAt t s) (Fails NoService)
+  unfolding linesPart
+  lines-tested = go (headAt t s)
+    where
+      go : (o : Offset) → linesFrom t o .test ≡ found o (Fails NoService)
+      go (From i) = refl
+      go NotFound = refl
+
 module _ (t block : List ℕ) (s : ℕ) where
-  pub now-block : isOneBlock s (lines block) ≡ true → block ≡ linesNow t block s
-  unfolding linesNow
-  now-block p = rw p
+  module _ (p : isOneBlock s (lines block) ≡ true) where
+    pub now-block : block ≡ linesNow t block s
+    unfolding linesNow
+    now-block = rw p
+
+    pub test-block : Passes ≡ linesNowTest t block s
+    unfolding linesNowTest
+    test-block = rw p
 
   module _ (p : isOneBlock s (lines block) ≡ false) where
-    pub now-none : seek (isHead s) 0 (lines t) ≡ NotFound → [] ≡ linesNow t block s
+    pub now-text : partOf t (linesPart t s .from) (linesPart t s .to) ≡ linesNow t block s
     unfolding linesNow
-    now-none e = rw (p, e)
+    now-text = rw p (lines-hold t s)
 
-    pub now-part : (i j : ℕ) → seek (isHead s) 0 (lines t) ≡ From i → seekAfter isHash i (lines (drop i t)) ≡ From j
-        → take (j - i) (drop i t) ≡ linesNow t block s
-    unfolding linesNow
-    now-part i j e f = rw (p, e, f)
+    pub test-text : linesPart t s .test ≡ linesNowTest t block s
+    unfolding linesNowTest
+    test-text = rw p (lines-tested t s)
 
-    pub now-rest : (i : ℕ) → seek (isHead s) 0 (lines t) ≡ From i → seekAfter isHash i (lines (drop i t)) ≡ NotFound
-        → take (length t - i) (drop i t) ≡ linesNow t block s
-    unfolding linesNow
-    now-rest i e f = take-all (length t - i) (drop i t) (rw length-drop (omega arith)) ∙ rw (p, e, f)
+  -- in one
+  pub now-holds : partOf (textNow t block s) (partNow t block s .from) (partNow t block s .to) ≡ linesNow t block s
+  now-holds = go (isOneBlock s (lines block)) refl
+    where
+      go : (b : Bool) → isOneBlock s (lines block) ≡ b
+          → partOf (textNow t block s) (partNow t block s .from) (partNow t block s .to) ≡ linesNow t block s
+      go true p = rw p (take-all (length block - 0) block (omega arith) ∙ now-block p)
+      go false p = rw p (now-text p)
 
-  -- and whether there are any
-  pub test-block : isOneBlock s (lines block) ≡ true → Passes ≡ linesNowTest t block s
-  unfolding linesNowTest
-  test-block p = rw p
-
-  pub test-text : isOneBlock s (lines block) ≡ false → (o : Offset) → seek (isHead s) 0 (lines t) ≡ o
-      → found o (Fails NoService) ≡ linesNowTest t block s
-  unfolding linesNowTest
-  test-text p o e = rw (p, e)
+  pub now-tested : partNow t block s .test ≡ linesNowTest t block s
+  now-tested = go (isOneBlock s (lines block)) refl
+    where
+      go : (b : Bool) → isOneBlock s (lines block) ≡ b → partNow t block s .test ≡ linesNowTest t block s
+      go true p = rw p (test-block p)
+      go false p = rw p (test-text p)

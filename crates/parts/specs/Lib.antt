@@ -1,1 +1,2 @@
 pub mod Wants
+pub mod Bounds

@@ -8,14 +8,33 @@ ghost use Prim.Native.Nat.{_≤_, _<_};
 ghost use lib.ListN.{length, drop};
 ghost use Rattle.iff.specs.Lists.{all};
 ghost use Rattle.iff.specs.Lines.{lines};
-ghost use Rattle.iff_desk.specs.Parts.{seek as seekFrom, seekAfter, isStation, isHead, isOneBlock, name as nameIn, nameTest, linesNow, linesNowTest};
+ghost use Rattle.iff_desk.specs.Parts.{seek as seekFrom, seekAfter, isStation, isHead, isOneBlock, name as nameOf, nameTest, linesNow, linesNowTest};
 ghost use Rattle.parts.specs.Wants.{bodied, wants, follows, Sought};
+ghost use Rattle.parts.specs.Bounds.{noPart, namePart, linesPart, Inside};
 
 // The line that is looked for: a station's row, a service's first line, or any line beginning `#`.
 pub enum Want {
     Station(u64),
     Head(u64),
     Hash,
+}
+
+// A part of a text by its bounds, from a byte on and before another; or the refusal, with an empty part from 0 to 0.
+pub struct Part {
+    pub test: Test,
+    pub from: usize,
+    pub to: usize,
+}
+
+fn no_part(reason: Reason) -> Part
+    ensures { λ r. ⌜ r ≡ noPart reason ⌝ }
+{
+    let test = Test::Fails(reason);
+    Part {
+        test: test,
+        from: 0,
+        to: 0,
+    }
 }
 
 // A row of 73 bytes with this short name, columns 3-9.
@@ -85,28 +104,40 @@ fn seek_after(text: &[u8], from: usize, want: Want) -> Offset
 
 // NAME
 
-// Columns 44-73 of the first row of 73 bytes, after the first line, with that short name; else an empty part.
-pub fn name<'a>(stations: &'a [u8], short: u64) -> &'a [u8]
-    ensures { λ r. ⌜ now r ≡ nameIn (now (stations .entry)) short ⌝ }
+// Where columns 44-73 stand of the first row of 73 bytes, after the first line, with that short name; else 17.
+pub fn name_part(stations: &[u8], short: u64) -> Part
+    ensures { λ r. ⌜ (r ≡ namePart (now (stations .entry)) short) × Inside (now (stations .entry)) r ⌝ }
 {
     match seek_after(stations, 0, Want::Station(short)) {
         Offset::From(i) => {
             let from = i + 43;
             let to = i + 73;
-            &stations[from..to]
+            Part {
+                test: Test::Passes,
+                from: from,
+                to: to,
+            }
         }
-        Offset::NotFound => &stations[0..0],
+        Offset::NotFound => no_part(Reason::NoStation),
     }
+}
+
+// Those columns themselves, or an empty part.
+pub fn name<'a>(stations: &'a [u8], short: u64) -> &'a [u8]
+    ensures { λ r. ⌜ now r ≡ nameOf (now (stations .entry)) short ⌝ }
+{
+    let part = name_part(stations, short);
+    let from = part.from;
+    let to = part.to;
+    &stations[from..to]
 }
 
 // Whether there is one, or 17.
 pub fn name_test(stations: &[u8], short: u64) -> Test
     ensures { λ r. ⌜ r ≡ nameTest (now (stations .entry)) short ⌝ }
 {
-    match seek_after(stations, 0, Want::Station(short)) {
-        Offset::From(_) => Test::Passes,
-        Offset::NotFound => Test::Fails(Reason::NoStation),
-    }
+    let part = name_part(stations, short);
+    part.test
 }
 
 // LINES NOW
@@ -153,6 +184,27 @@ pub fn is_one_block(block: &[u8], service: u64) -> bool
     all_follow(block, line.next)
 }
 
+// Where the service's lines stand in the text, from its first `#` line to the next line beginning `#` or the end; else 12.
+pub fn lines_part(text: &[u8], service: u64) -> Part
+    ensures { λ r. ⌜ (r ≡ linesPart (now (text .entry)) service) × Inside (now (text .entry)) r ⌝ }
+{
+    match seek(text, 0, Want::Head(service)) {
+        Offset::From(i) => match seek_after(text, i, Want::Hash) {
+            Offset::From(j) => Part {
+                test: Test::Passes,
+                from: i,
+                to: j,
+            },
+            Offset::NotFound => Part {
+                test: Test::Passes,
+                from: i,
+                to: text.len(),
+            },
+        },
+        Offset::NotFound => no_part(Reason::NoService),
+    }
+}
+
 // The block where it passes 11's test for that service, else the service's lines in the text: a part of one of the two, or an empty one.
 pub fn lines_now<'a>(text: &'a [u8], block: &'a [u8], service: u64) -> &'a [u8]
     ensures { λ r. ⌜ now r ≡ linesNow (now (text .entry)) (now (block .entry)) service ⌝ }
@@ -160,13 +212,10 @@ pub fn lines_now<'a>(text: &'a [u8], block: &'a [u8], service: u64) -> &'a [u8]
     if is_one_block(block, service) {
         return block;
     }
-    match seek(text, 0, Want::Head(service)) {
-        Offset::From(i) => match seek_after(text, i, Want::Hash) {
-            Offset::From(j) => &text[i..j],
-            Offset::NotFound => &text[i..],
-        },
-        Offset::NotFound => &text[0..0],
-    }
+    let part = lines_part(text, service);
+    let from = part.from;
+    let to = part.to;
+    &text[from..to]
 }
 
 // Whether there are any, or 12.
@@ -176,8 +225,6 @@ pub fn lines_now_test(text: &[u8], block: &[u8], service: u64) -> Test
     if is_one_block(block, service) {
         return Test::Passes;
     }
-    match seek(text, 0, Want::Head(service)) {
-        Offset::From(_) => Test::Passes,
-        Offset::NotFound => Test::Fails(Reason::NoService),
-    }
+    let part = lines_part(text, service);
+    part.test
 }

@@ -105,7 +105,7 @@ abbrev pub NoneOf : ℕ → ℕ → Type 0
 NoneOf zero j = Unit {0}
 NoneOf (suc n) j = NoneOf n j × (j ≡ n → ⊥)
 
-past : (n j : ℕ) → NoneOf n j → n ≤ j
+pub past : (n j : ℕ) → NoneOf n j → n ≤ j
 past zero j h = omega arith
 past (suc n) j h =
     let p = past n j (h .0) in

@@ -45,7 +45,7 @@ pub struct Spans(pub usize, pub usize, pub usize, pub usize);
 // One field: its first column, counted from 1, its width and its class.
 pub struct Entry(pub usize, pub usize, pub u8);
 
-fn spans_of(record: iff::Record) -> Spans
+pub fn spans_of(record: iff::Record) -> Spans
     ensures { λ r. ⌜ r ≡ spansOf «record» ⌝ }
 {
     match record {
@@ -76,7 +76,7 @@ fn spans_of(record: iff::Record) -> Spans
 // Field `j` of those that leave a word in a row, in the order of the pictures; beyond the last, an empty one. The classes: `n` a number,
 // `s` a stop's number, `a` a company or the wildcard, `c` a code. A `match` and no constant array, since the compiler makes a table of it that
 // stands in the program, where an array is put together at every look.
-fn entry_at(j: usize) -> Entry
+pub fn entry_at(j: usize) -> Entry
     ensures { λ r. ⌜ EntryOf j r ⌝ }
 {
     match j {

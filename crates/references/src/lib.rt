@@ -26,9 +26,9 @@ ghost use Rattle.references.specs.Agree.{ChangeKeysAmong, ExceptionKeysA
 ghost use Rattle.references.specs.Company.{companyNamed};
 
 // `*` and blanks, packed as a company's three bytes and as a mode's four.
-const ANY_COMPANY: u64 = 2760736;
+pub const ANY_COMPANY: u64 = 2760736;
 
-const ANY_MODE: u64 = 706748448;
+pub const ANY_MODE: u64 = 706748448;
 
 // ROWS IN USE, counted once for a file that is read, and not for each of its lines
 
@@ -92,8 +92,7 @@ pub fn count_for_groups(
 
 // REFERENCES
 
-// What a line of a TIMETBLS block names is there. The attribute's own code is not looked up. The places of stations and footnotes are a hint
-// where to look, and may say anything.
+// What a line of a TIMETBLS block names is there. The attribute's own code is not looked up. The places are a hint where to look, and may say anything.
 pub fn met_in_block(
     row: &[u64],
     counts: BlockCounts,
@@ -115,10 +114,11 @@ pub fn met_in_block(
         return true;
     }
     if tag == tags::PERCENT {
-        return keys::names_among(
+        return keys::names_at(
             File::Rows(RowFile::Company),
             companies,
             counts.companies,
+            places,
             name,
         );
     }
@@ -132,7 +132,13 @@ pub fn met_in_block(
         );
     }
     if tag == tags::AMPERSAND {
-        return keys::names_among(File::Rows(RowFile::Trnsmode), modes, counts.modes, name);
+        return keys::names_at(
+            File::Rows(RowFile::Trnsmode),
+            modes,
+            counts.modes,
+            places,
+            name,
+        );
     }
     if tag == tags::ASTERISK {
         return keys::names_at(
@@ -204,10 +210,11 @@ fn met_change(
         → r ≡ metInGroup c Changes (now (row .entry))) ⌝ }
 {
     if row[words::TAG] == tags::HASH {
-        return keys::names_among(
+        return keys::names_at(
             File::Rows(RowFile::Stations),
             stations,
             counts.stations,
+            places,
             row[words::NAMED],
         );
     }
@@ -221,31 +228,44 @@ fn met_change(
 }
 
 // A company that an exception names; the wildcard is in no table.
-fn met_company(company: u64, used: usize, companies: &[u64]) -> bool
+fn met_company(company: u64, used: usize, companies: &[u64], places: &[u32]) -> bool
     ensures { λ r. ⌜ r ≡ (eqb company anyCompany || has company (keysAmong (Rows Company) used (now (companies .entry)))) ⌝ }
 {
     if company == ANY_COMPANY {
         return true;
     }
-    keys::names_among(File::Rows(RowFile::Company), companies, used, company)
+    keys::names_at(
+        File::Rows(RowFile::Company),
+        companies,
+        used,
+        places,
+        company,
+    )
 }
 
 // A mode that an exception names, likewise.
-fn met_mode(mode: u64, used: usize, modes: &[u64]) -> bool
+fn met_mode(mode: u64, used: usize, modes: &[u64], places: &[u32]) -> bool
     ensures { λ r. ⌜ r ≡ (eqb mode anyMode || has mode (keysAmong (Rows Trnsmode) used (now (modes .entry)))) ⌝ }
 {
     if mode == ANY_MODE {
         return true;
     }
-    keys::names_among(File::Rows(RowFile::Trnsmode), modes, used, mode)
+    keys::names_at(File::Rows(RowFile::Trnsmode), modes, used, places, mode)
 }
 
 // One side of an exception: the service changed from, or the one changed to.
-fn met_side(company: u64, mode: u64, counts: GroupCounts, companies: &[u64], modes: &[u64]) -> bool
+fn met_side(
+    company: u64,
+    mode: u64,
+    counts: GroupCounts,
+    companies: &[u64],
+    modes: &[u64],
+    places: &[u32],
+) -> bool
     ensures { λ r. ⌜ r ≡ metSide counts (now (companies .entry)) (now (modes .entry)) company mode ⌝ }
 {
-    if met_company(company, counts.companies, companies) {
-        return met_mode(mode, counts.modes, modes);
+    if met_company(company, counts.companies, companies, places) {
+        return met_mode(mode, counts.modes, modes, places);
     }
     false
 }
@@ -256,6 +276,7 @@ fn met_sides(
     counts: GroupCounts,
     companies: &[u64],
     modes: &[u64],
+    places: &[u32],
     xfootnotes: &[u64],
 ) -> bool
     requires { ⌜ length (now row) ≡ rowWidth (Groups Xchanges) ⌝ }
@@ -267,6 +288,7 @@ fn met_sides(
         counts,
         companies,
         modes,
+        places,
     ) {
         if met_side(
             row[words::TO_COMPANY],
@@ -274,11 +296,13 @@ fn met_sides(
             counts,
             companies,
             modes,
+            places,
         ) {
-            return keys::names_among(
+            return keys::names_at(
                 File::Groups(GroupFile::Xfootnote),
                 xfootnotes,
                 counts.xfootnotes,
+                places,
                 row[words::EXCEPTION_FOOTNOTE],
             );
         }
@@ -294,6 +318,7 @@ fn met_exception(
     companies: &[u64],
     modes: &[u64],
     stations: &[u64],
+    places: &[u32],
     xfootnotes: &[u64],
 ) -> bool
     requires { ⌜ length (now row) ≡ rowWidth (Groups Xchanges) ⌝ }
@@ -302,14 +327,15 @@ fn met_exception(
         → r ≡ metInGroup c Xchanges (now (row .entry))) ⌝ }
 {
     if row[words::TAG] == tags::HASH {
-        return keys::names_among(
+        return keys::names_at(
             File::Rows(RowFile::Stations),
             stations,
             counts.stations,
+            places,
             row[words::NAMED],
         );
     }
-    met_sides(row, counts, companies, modes, xfootnotes)
+    met_sides(row, counts, companies, modes, places, xfootnotes)
 }
 
 // What a row of a file of rows names is there. Only STATIONS names anything.
@@ -349,7 +375,15 @@ pub fn met_in_group(
         GroupFile::Footnote => true,
         GroupFile::Changes => met_change(row, counts, stations, services, places),
         GroupFile::Xfootnote => true,
-        GroupFile::Xchanges => met_exception(row, counts, companies, modes, stations, xfootnotes),
+        GroupFile::Xchanges => met_exception(
+            row,
+            counts,
+            companies,
+            modes,
+            stations,
+            places,
+            xfootnotes,
+        ),
     }
 }
 

@@ -205,7 +205,7 @@ fn stray_test(text: &[u8], from: usize) -> iff::Test
 
 // The lines after the first, which begin at `from`, into a table that holds the first line's row. A stray line is line 2 of block 0.
 // The places of stations and footnotes are found once, since nearly every line names one. They share 16381 first slots, which is a prime
-// number, and eight more for those that the last of these are too few for.
+// number, and as many more as are tried for a key.
 pub fn read_blocks(
     text: &[u8],
     from: usize,
@@ -227,7 +227,7 @@ pub fn read_blocks(
         }
         iff::Test::Passes => {
             let counts = references::count_for_blocks(companies, modes, stations, footnotes);
-            let mut places = [0u32; 16389];
+            let mut places = [0u32; 16445];
             keys::index_rows(
                 iff::File::Rows(iff::RowFile::Stations),
                 stations,

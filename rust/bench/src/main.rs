@@ -1,5 +1,6 @@
 //! Times the proved load and the second program side by side on large
-//! deliveries, with keys that rise and keys in any order.
+//! deliveries, with keys that rise and keys in any order; soundness of their
+//! tables, and a change.
 //!
 //! usage: bench [--max-services N] [--seconds N]
 //!

@@ -3,7 +3,7 @@
 use std::io;
 
 use compare::{lengths_of, Lengths};
-use deliveries::{place, sound, Case, Tally, FILES, TELLING_BYTES};
+use deliveries::{place, sound, Case, Tally, World, FILES, TELLING_BYTES};
 
 use crate::comparison::{count, Comparison};
 
@@ -22,7 +22,7 @@ const LETTERS: [(usize, &[u8]); 6] = [
 
 /// Replaces every byte in turn; answers how many deliveries that made.
 pub fn compare_all(comparison: &mut Comparison) -> io::Result<Tally> {
-    let case = with_every_record();
+    let (_, case) = with_every_record();
     // A byte replaced by CR or LF can end a line.
     let lengths = lengths_of(&case.rooms.map(|room| room + 2));
     let mut tally = Tally::default();
@@ -63,11 +63,10 @@ fn other_values(byte: u8, at: usize) -> impl Iterator<Item = u8> {
 }
 
 /// A small sound delivery that has every kind of record.
-pub fn with_every_record() -> Case {
-    let cases = (0..2_000).map(|seed| sound(seed).1);
-    let whole = cases.filter(has_every_record);
+pub fn with_every_record() -> (World, Case) {
+    let whole = (0..2_000).map(sound).filter(|(_, case)| has_every_record(case));
     whole
-        .min_by_key(|case| case.files.iter().map(Vec::len).sum::<usize>())
+        .min_by_key(|(_, case)| case.files.iter().map(Vec::len).sum::<usize>())
         .expect("a delivery with all records")
 }
 

@@ -1,13 +1,19 @@
 //! A run of many comparisons: its counts, and what becomes of a difference.
 
-use std::path::PathBuf;
+use std::fmt::Debug;
+use std::panic::{catch_unwind, AssertUnwindSafe};
+use std::path::{Path, PathBuf};
 use std::{fs, io};
 
-use compare::{by_proved, by_second, junk, Files, Lengths, Outcome};
-use deliveries::{folder, Rng, Tally, NAMES};
+use compare::answers::{asked_of_proved, asked_of_second, Answered, Examined, Lent};
+use compare::{by_proved, by_second, junk, Files, Lengths, Outcome, Tables};
+use deliveries::{folder, Question, Rng, Tally, NAMES};
 use proved::Answer;
+use second::encode::width;
+use second::sound::examine;
+use second::File;
 
-/// So many differing deliveries are written out; the others are only counted.
+/// So many differences are written out; the others are only counted.
 const WRITTEN: usize = 5;
 
 pub struct Comparison {
@@ -29,8 +35,7 @@ impl Comparison {
     /// What is wrong, if the two programs differ.
     pub fn complaint(&self) -> Option<String> {
         let (count, folder) = (self.differences, self.folder.display());
-        (count > 0)
-            .then(|| format!("The two programs differ on {count} deliveries; the first are in {folder}."))
+        (count > 0).then(|| format!("The two programs differ {count} times; the first are in {folder}."))
     }
 
     /// Hands the delivery to both programs and compares all they answer and
@@ -39,16 +44,88 @@ impl Comparison {
         let second = by_second(files, &lengths);
         let proved = by_proved(files, junk(&mut self.rng, &lengths));
         if proved != second {
-            self.differences += 1;
-            eprintln!("{name}: the two programs differ.");
-            if self.differences <= WRITTEN {
-                let path = self.folder.join(name);
-                folder::write(&files, &path)?;
-                fs::write(path.join("answers.txt"), explained(&lengths, &proved, &second))?;
-            }
+            self.note(name, |path| {
+                folder::write(&files, path)?;
+                fs::write(path.join("answers.txt"), explained(&lengths, &proved, &second))
+            })?;
         }
         Ok(second.answer)
     }
+
+    /// Asks both programs whether tables are sound. Answers what the second
+    /// program finds.
+    pub fn compare_soundness(&mut self, name: &str, tables: &Tables) -> io::Result<Examined> {
+        let second = examine(tables);
+        let proved = answered(|| proved::is_sound(tables.each_ref().map(Vec::as_slice)));
+        if proved != Some(second.is_ok()) {
+            self.note(name, |path| {
+                let found = second.as_ref().map_or_else(|unsound| format!("{unsound:?}"), |_| "sound".into());
+                write_answers(path, &"whether the tables are sound", &proved, &found)?;
+                fs::write(path.join("tables.txt"), written(tables))
+            })?;
+        }
+        Ok(second)
+    }
+
+    /// Puts a question to both programs. Answers what the second program says.
+    pub fn compare_answers(
+        &mut self,
+        name: &str,
+        question: &Question,
+        lent: Lent,
+        examined: &Examined,
+    ) -> io::Result<Answered> {
+        let second = asked_of_second(question, lent, examined);
+        let proved = answered(|| asked_of_proved(question, lent));
+        if proved != Some(second) {
+            self.note(name, |path| {
+                write_answers(path, question, &proved, &second)?;
+                fs::write(path.join("tables.txt"), written(lent.tables))?;
+                fs::write(path.join("STATIONS"), lent.stations)?;
+                fs::write(path.join("TIMETBLS"), lent.timetbls)
+            })?;
+        }
+        Ok(second)
+    }
+
+    /// Counts a difference, and writes out the first of them.
+    fn note(&mut self, name: &str, write: impl FnOnce(&Path) -> io::Result<()>) -> io::Result<()> {
+        self.differences += 1;
+        eprintln!("{name}: the two programs differ.");
+        if self.differences > WRITTEN {
+            return Ok(());
+        }
+        let path = self.folder.join(name);
+        fs::create_dir_all(&path)?;
+        write(&path)
+    }
+}
+
+/// What the archive answers; none where its contracts shut that out, of which
+/// the panic has told.
+fn answered<T>(ask: impl FnOnce() -> T) -> Option<T> {
+    catch_unwind(AssertUnwindSafe(ask)).ok()
+}
+
+fn write_answers(
+    path: &Path,
+    asked: &dyn Debug,
+    proved: &Option<impl Debug>,
+    second: &impl Debug,
+) -> io::Result<()> {
+    let proved = proved.as_ref().map_or("what its contracts shut out".into(), |answer| format!("{answer:?}"));
+    fs::write(path.join("answers.txt"), format!("asked: {asked:?}\nproved: {proved}\nsecond: {second:?}\n"))
+}
+
+/// The tables, a line for each row.
+fn written(tables: &Tables) -> String {
+    let mut lines = Vec::new();
+    for file in File::ALL {
+        lines.push(format!("{}, {} words", file.name(), tables[file.index()].len()));
+        let rows = tables[file.index()].chunks(width(file));
+        lines.extend(rows.map(|row| row.iter().map(u64::to_string).collect::<Vec<_>>().join(" ")));
+    }
+    lines.join("\n") + "\n"
 }
 
 /// Both answers, the lengths of the tables, and where these first differ.

@@ -41,7 +41,7 @@ fn compare_too_long(comparison: &mut Comparison, tally: &mut Tally, text: &[u8])
 /// 3 comes after 1 and before any line: a file that is absent spares both
 /// programs the reading of the long one.
 fn compare_longest(comparison: &mut Comparison, text: &[u8]) -> io::Result<Vec<String>> {
-    let case = with_every_record();
+    let (_, case) = with_every_record();
     let mut complaints = Vec::new();
     for (file, name) in NAMES.iter().enumerate() {
         let absent = if file == place::DELIVERY { place::COMPANY } else { place::DELIVERY };
@@ -57,7 +57,7 @@ fn compare_longest(comparison: &mut Comparison, text: &[u8]) -> io::Result<Vec<S
 
 /// One file of the largest length is read.
 fn read_longest(comparison: &mut Comparison, text: &[u8]) -> io::Result<()> {
-    let case = with_every_record();
+    let (_, case) = with_every_record();
     compare_one(comparison, "longest-read", &case, with(&case, place::TIMETBLS, text))?;
     Ok(())
 }

@@ -1,4 +1,7 @@
-//! One delivery through both programs: the proved load and the second program.
+//! One delivery, or one question, through both programs: the proved crates and
+//! the second program.
+
+pub mod answers;
 
 use std::array;
 

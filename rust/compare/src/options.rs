@@ -5,29 +5,39 @@ use std::path::PathBuf;
 use std::time::{SystemTime, UNIX_EPOCH};
 
 pub struct Options {
-    /// Deliveries of these seeds and nothing else; else everything.
-    pub seeds: Option<Range<u64>>,
-    /// Where differing deliveries are written.
+    pub part: Part,
+    /// Where differences are written.
     pub folder: PathBuf,
 }
 
-pub const USAGE: &str = "usage: compare [--seed S --count N] [FOLDER]";
+/// What is compared.
+pub enum Part {
+    Everything,
+    Loads,
+    Questions,
+    /// Loads and questions of these seeds.
+    Seeds(Range<u64>),
+}
+
+pub const USAGE: &str = "usage: compare [--loads | --questions | --seed S --count N] [FOLDER]";
 
 pub fn asked(arguments: &[String]) -> Option<Options> {
     let arguments: Vec<&str> = arguments.iter().map(String::as_str).collect();
-    let (seeds, rest) = match arguments[..] {
+    let (part, rest) = match arguments[..] {
+        ["--loads", ref rest @ ..] => (Part::Loads, rest),
+        ["--questions", ref rest @ ..] => (Part::Questions, rest),
         ["--seed", first, "--count", count, ref rest @ ..] => {
             let first: u64 = first.parse().ok()?;
-            (Some(first..first.checked_add(count.parse().ok()?)?), rest)
+            (Part::Seeds(first..first.checked_add(count.parse().ok()?)?), rest)
         }
-        ref rest => (None, rest),
+        ref rest => (Part::Everything, rest),
     };
     let folder = match *rest {
         [] => "target/differences",
         [folder] if !folder.starts_with('-') => folder,
         _ => return None,
     };
-    Some(Options { seeds, folder: folder.into() })
+    Some(Options { part, folder: folder.into() })
 }
 
 /// Seeds that no other day has.

@@ -21,7 +21,7 @@ pub fn amendment(rng: &mut Rng, world: &World) -> Amendment {
     match rng.below(100) {
         0..=49 => (),
         50..=79 => damage_block(rng, &mut amendment.block),
-        80..=89 => not_one_block(rng, &mut amendment),
+        80..=89 => as_no_block(rng, &mut amendment),
         _ => rename(rng, &mut amendment),
     }
     amendment
@@ -45,8 +45,13 @@ fn rename(rng: &mut Rng, amendment: &mut Amendment) {
     amendment.block[1..9].copy_from_slice(&number(amendment.service, 8));
 }
 
-fn not_one_block(rng: &mut Rng, amendment: &mut Amendment) {
+/// Makes what is not one block of it. A block that has not even a `#` line is
+/// none as it stands.
+pub fn as_no_block(rng: &mut Rng, amendment: &mut Amendment) {
     let block = &mut amendment.block;
+    if block.len() < b"#00000000\r\n".len() {
+        return;
+    }
     match rng.below(7) {
         0 => block.clear(),
         1 => drop(block.pop()),

@@ -43,10 +43,19 @@ pub fn at_borders(seed: u64) -> (World, Case) {
 }
 
 /// A sound delivery with two and more of everything and all files there.
-pub fn full(seed: u64) -> Case {
+pub fn full(seed: u64) -> (World, Case) {
     let mut rng = Rng::new(seed);
     let shape = Shape::full(&mut rng);
-    shaped(&mut rng, &shape).1
+    shaped(&mut rng, &shape)
+}
+
+/// A small sound delivery, each of these sorts in its turn.
+pub fn of_each_sort(seed: u64) -> (World, Case) {
+    match seed % 4 {
+        0 => at_borders(seed),
+        1 => full(seed),
+        _ => sound(seed),
+    }
 }
 
 fn shaped(rng: &mut Rng, shape: &Shape) -> (World, Case) {

@@ -12,11 +12,16 @@ use crate::FILES;
 pub const TELLING_BYTES: &[u8] = b"@#%-&*>.+;<?,0129 \r\n\x00\x1f\x7e\x7f\x80\x9f\xa0\xff";
 
 /// How often each file is damaged: by how much it can go wrong in.
-const WEIGHTS: [usize; FILES] = [2, 2, 2, 2, 3, 3, 2, 12, 3, 2, 4];
+pub const WEIGHTS: [usize; FILES] = [2, 2, 2, 2, 3, 3, 2, 12, 3, 2, 4];
 
 /// Does one damage to the case.
 pub fn damage(rng: &mut Rng, case: &mut Case) {
     let file = present(rng, case);
+    damage_file(rng, case, file);
+}
+
+/// Does one damage to the case, to this file where that can be: it is there.
+pub fn damage_file(rng: &mut Rng, case: &mut Case, file: usize) {
     match rng.below(100) {
         0..=9 => replace_byte(rng, &mut case.files[file]),
         10..=48 => edit_lines(rng, case, file, set_field),
@@ -55,13 +60,13 @@ fn edit_lines(rng: &mut Rng, case: &mut Case, file: usize, edit: Edit) {
     case.files[file] = join(&lines);
 }
 
-/// Damages the lines of a block after its `#`.
+/// Damages the lines of a block after its `#`, if it has any.
 pub fn damage_block(rng: &mut Rng, block: &mut Vec<u8>) {
     let mut lines = split(block);
-    let opening = lines.remove(0);
-    if lines.is_empty() {
+    if lines.len() < 2 {
         return;
     }
+    let opening = lines.remove(0);
     match rng.below(4) {
         0 => damage_lines(rng, TIMETBLS, &mut lines),
         1 => replace_in_line(rng, &mut lines),

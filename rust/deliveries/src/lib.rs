@@ -15,18 +15,19 @@ pub mod folder;
 pub mod questions;
 mod rng;
 mod shape;
-mod tally;
+pub mod tables;
+pub mod tally;
 mod text;
 mod world;
 
 pub use amendments::{amendment, edited, Amendment};
-pub use cases::{at_borders, damaged, large, limit, limits, mixed, sound, Case, Limit};
+pub use cases::{at_borders, damaged, large, limit, limits, mixed, of_each_sort, sound, Case, Limit};
 pub use causes::{causes, Cause};
-pub use damage::TELLING_BYTES;
-pub use questions::{question, Question};
+pub use damage::{damage_file, TELLING_BYTES};
+pub use questions::{lines_in, name_in, question, question_on_tables, Question};
 pub use rng::Rng;
 pub use shape::Shape;
-pub use tally::{can_occur, Tally};
+pub use tally::{can_occur, Outcomes, Tally};
 pub use world::World;
 
 /// How many files a delivery has.

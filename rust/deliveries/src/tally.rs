@@ -1,4 +1,5 @@
-//! How often deliveries are accepted, and refused with which number in which file.
+//! How often deliveries are accepted, and refused with which number in which file;
+//! how often questions come to what.
 
 use std::collections::BTreeMap;
 use std::fmt;
@@ -96,5 +97,119 @@ impl fmt::Display for Tally {
             }
         }
         Ok(())
+    }
+}
+
+/// What the desk's questions can come to by document 01. A stop has an arrival,
+/// a departure or both, never neither.
+pub const OF_QUESTIONS: &[&str] = &[
+    "running day: runs",
+    "running day: rests",
+    "running day: refused 12",
+    "running day: refused 13",
+    "running day: refused 14",
+    "running day: refused 16",
+    "stop time: arrival and departure",
+    "stop time: no arrival",
+    "stop time: no departure",
+    "stop time: refused 12",
+    "stop time: refused 13",
+    "stop time: refused 14",
+    "stop time: refused 15",
+    "stop time: refused 16",
+    "change: No, same service and date",
+    "change: No, A does not run",
+    "change: No, B does not run",
+    "change: No, stations differ",
+    "change: No, nobody alights",
+    "change: No, nobody boards",
+    "change: No, pair 00, by CHANGES",
+    "change: No, flag 0, by STATIONS",
+    "change: No, gap below needed, by CHANGES",
+    "change: No, gap below needed, by STATIONS",
+    "change: No, gap below needed, by XCHANGES",
+    "change: No, gap below needed, by CHANGES, a minute",
+    "change: No, gap below needed, by STATIONS, a minute",
+    "change: No, gap below needed, by XCHANGES, a minute",
+    "change: Yes, by CHANGES",
+    "change: Yes, by STATIONS",
+    "change: Yes, by XCHANGES",
+    "change: Yes, by CHANGES, gap just needed",
+    "change: Yes, by STATIONS, gap just needed",
+    "change: Yes, by XCHANGES, gap just needed",
+    "change: Unsettled, by STATIONS",
+    "change: Unsettled, by XCHANGES",
+    "change: Unsettled, by STATIONS, gap just needed",
+    "change: Unsettled, by XCHANGES, gap just needed",
+    "change: refused 12",
+    "change: refused 13",
+    "change: refused 14",
+    "change: refused 15",
+    "change: refused 16",
+    "name: there",
+    "name: refused 17",
+    "lines now: of the block",
+    "lines now: of the text",
+    "lines now: refused 12",
+];
+
+/// What soundness can come to: the rule that the rows of tables break first. No
+/// table has more rows than room, and none made here is long enough for 1.
+pub const OF_SOUNDNESS: &[&str] = &[
+    "sound",
+    "a row stands for no line",
+    "rule 3",
+    "rule 4",
+    "rule 5",
+    "rule 6",
+    "rule 7",
+    "rule 8",
+    "rule 9",
+    "rule 10",
+    "unused places or derived words",
+];
+
+/// Counts of outcomes, of which some are expected.
+#[derive(Clone, Debug)]
+pub struct Outcomes {
+    expected: &'static [&'static str],
+    counts: BTreeMap<String, usize>,
+}
+
+impl Outcomes {
+    pub fn new(expected: &'static [&'static str]) -> Outcomes {
+        Outcomes { expected, counts: BTreeMap::new() }
+    }
+
+    pub fn count(&mut self, outcome: String) {
+        *self.counts.entry(outcome).or_default() += 1;
+    }
+
+    pub fn of(&self, outcome: &str) -> usize {
+        self.counts.get(outcome).copied().unwrap_or(0)
+    }
+
+    pub fn total(&self) -> usize {
+        self.counts.values().sum()
+    }
+
+    /// The expected outcomes that were met less often.
+    pub fn rarer_than(&self, often: usize) -> Vec<&'static str> {
+        self.expected.iter().copied().filter(|outcome| self.of(outcome) < often).collect()
+    }
+
+    /// The outcomes that were met and are not expected.
+    pub fn unexpected(&self) -> Vec<&str> {
+        let is_expected = |outcome: &&str| self.expected.contains(outcome);
+        self.counts.keys().map(String::as_str).filter(|outcome| !is_expected(outcome)).collect()
+    }
+}
+
+/// A line for each outcome.
+impl fmt::Display for Outcomes {
+    fn fmt(&self, out: &mut fmt::Formatter) -> fmt::Result {
+        let all = self.expected.iter().copied().chain(self.unexpected());
+        let lines: Vec<String> = all.map(|outcome| format!("{:>7} {outcome}", self.of(outcome))).collect();
+        out.write_str(&lines.join("\n"))
     }
 }

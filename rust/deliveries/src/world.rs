@@ -249,7 +249,10 @@ fn write_stations(rng: &mut Rng, world: &World, file: &mut Lines) {
         let time = match rng.below(100) {
             0..=14 => 99,
             15..=34 => 0,
-            _ => rng.below(20),
+            _ => match rng.below(20) {
+                19 => 98,
+                minutes => minutes,
+            },
         };
         let country = rng.pick(&world.countries);
         let zone = number(*rng.pick(&world.zones), 4);
@@ -444,7 +447,12 @@ fn write_xchanges(rng: &mut Rng, shape: &Shape, world: &World, file: &mut Lines)
                 let time = match rng.below(100) {
                     0..=14 => 999,
                     15..=29 => 0,
-                    _ => rng.below(40),
+                    _ => match rng.below(40) {
+                        // Unsettled in STATIONS alone.
+                        39 => 99,
+                        38 => 998,
+                        minutes => minutes,
+                    },
                 };
                 file.line(&[b"-", &keys, b",", &number(time as u64, 3), b",", &footnote]);
             }

@@ -5,11 +5,12 @@ mod common;
 use std::collections::BTreeMap;
 use std::ops::RangeInclusive;
 
-use common::{is_one_block, outcome, place_of, sound_of_both_sorts, Place};
+use common::{is_one_block, outcome, place_of, Place};
 use deliveries::causes::ACCEPTED;
 use deliveries::place::*;
 use deliveries::{
-    amendment, causes, edited, limit, limits, mixed, sound, Amendment, Case, Limit, Rng, Tally, World,
+    amendment, causes, edited, limit, limits, mixed, of_each_sort, sound, Amendment, Case, Limit, Rng, Tally,
+    World,
 };
 use second::{amend, encode, open, rooms_of, Store};
 
@@ -22,7 +23,7 @@ fn lens(rooms: &[usize; 11]) -> [usize; 11] {
 #[test]
 fn sound_deliveries_are_accepted() {
     for seed in 0..2_000 {
-        let (world, case) = sound_of_both_sorts(seed);
+        let (world, case) = of_each_sort(seed);
         let store = outcome(&case).unwrap_or_else(|refusal| panic!("seed {seed}: {refusal:?}"));
         let answer = store.answer();
         assert_eq!((answer.days, answer.services), (world.days as u64, world.services.len() as u64));
@@ -87,7 +88,7 @@ fn ordinary_zones_reach_beyond_validity_and_attributes_go_on() {
 #[test]
 fn loaded_tables_are_sound() {
     for seed in 0..1_000 {
-        let (_, case) = sound_of_both_sorts(seed);
+        let (_, case) = of_each_sort(seed);
         let store = outcome(&case).unwrap();
         let tables = encode(&store, &lens(&case.rooms));
         assert!(open(&tables).is_ok_and(|shown| shown == store), "seed {seed}");
@@ -210,7 +211,7 @@ fn amend_both_ways(store: &mut Store, case: &mut Case, world: &World, rng: &mut 
 fn amendments_are_as_loads_of_the_edited_text() {
     let mut numbers: BTreeMap<u8, usize> = BTreeMap::new();
     for seed in 0..1_500 {
-        let (world, mut case) = sound_of_both_sorts(seed);
+        let (world, mut case) = of_each_sort(seed);
         let mut store = outcome(&case).unwrap();
         let mut rng = Rng::new(seed);
         // One delivery is amended several times in a row, so that amendments

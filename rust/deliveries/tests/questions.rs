@@ -6,9 +6,9 @@ mod reckoned;
 
 use std::collections::BTreeMap;
 
-use common::{outcome, sound_of_both_sorts};
+use common::outcome;
 use deliveries::place::{STATIONS, TIMETBLS};
-use deliveries::{question, Case, Question, Rng};
+use deliveries::{of_each_sort, question, Case, Question, Rng};
 use reckoned::Desk;
 use second::questions::{Side, Verdict};
 use second::{change, lines_now, name, running_day, stop_time, Refusal, Store};
@@ -61,7 +61,7 @@ fn ask_both_ways(store: &Store, case: &Case, desk: &Desk, question: Question) ->
 fn questions_meet_every_answer() {
     let mut answers: BTreeMap<String, usize> = BTreeMap::new();
     for seed in 0..2_000 {
-        let (world, case) = sound_of_both_sorts(seed);
+        let (world, case) = of_each_sort(seed);
         let store = outcome(&case).unwrap();
         let desk = Desk::new(&case);
         let mut rng = Rng::new(seed);

@@ -1,23 +1,28 @@
-//! The load in an x86-64 process under the kit's emulator.
+//! The functions of the archive in an x86-64 process under the kit's emulator.
 //!
-//! Both sides speak in 64-bit words, lowest byte first. Asked: the lengths of
-//! the eleven files in bytes, which of them are not sent since they are large
-//! and hold zeros alone, the lengths of the eleven tables in words, what the
-//! six words of the answer and the tables hold, then the other files. Answered:
-//! the six words, then the tables.
+//! Both sides speak in 64-bit words, lowest byte first. The first word asked is
+//! the call. For a load follow: the lengths of the eleven files in bytes, which
+//! of them are not sent since they are large and hold zeros alone, the lengths
+//! of the eleven tables in words, what the six words of the answer and the
+//! tables hold, then the other files. Answered: the six words, then the tables.
+//!
+//! For any other call follow: six numbers, those beyond the call's own zero;
+//! what seven words and four minutes hold, of which the call writes its own;
+//! the lengths in bytes of eleven slices, those beyond the call's own zero;
+//! then the slices. Answered: the seven words and the four minutes.
 
 use std::io::{self, BufWriter, Read, Write};
 use std::process::{Child, ChildStdin, ChildStdout, Command, Stdio};
 use std::sync::{Mutex, PoisonError};
 
-use crate::{Files, Tables, Words};
+use crate::{Files, LentTables, Side, Tables, Words, FILES};
 
 const WORD: usize = size_of::<u64>();
 
 /// Bytes are gathered so far before they are sent; larger files go by themselves.
 const GATHERED: usize = 1 << 20;
 
-/// Started by the first load; it ends when its input does, with this process.
+/// Started by the first call; it ends when its input does, with this process.
 static SERVANT: Mutex<Option<Servant>> = Mutex::new(None);
 
 struct Servant {
@@ -26,10 +31,69 @@ struct Servant {
     _process: Child,
 }
 
-pub fn call(files: Files, tables: Tables, answer: &mut Words) {
+/// The calls by number, as `servant.c` has them.
+enum Call {
+    Load,
+    IsSound,
+    RunningDay,
+    StopTime,
+    Change,
+    Name,
+    LinesNow,
+}
+
+pub fn load(files: Files, tables: Tables, answer: &mut Words) {
+    with_servant(|servant| servant.load(files, tables, answer))
+}
+
+pub fn is_sound(tables: LentTables) -> u64 {
+    let mut answer = [u64::MAX];
+    ask_tables(Call::IsSound, tables, &[], &mut answer, &mut []);
+    answer[0]
+}
+
+pub fn running_day(tables: LentTables, service: u64, leg: u64, date: u64, answer: &mut [u64; 2]) {
+    ask_tables(Call::RunningDay, tables, &[service, leg, date], answer, &mut [])
+}
+
+pub fn stop_time(
+    tables: LentTables,
+    service: u64,
+    stop: u64,
+    date: u64,
+    answer: &mut [u64; 4],
+    minutes: &mut [i32; 4],
+) {
+    ask_tables(Call::StopTime, tables, &[service, stop, date], answer, minutes)
+}
+
+pub fn change(tables: LentTables, from: Side, to: Side, answer: &mut [u64; 7], gap: &mut [i32; 1]) {
+    let numbers = [from.service, from.stop, from.date, to.service, to.stop, to.date];
+    ask_tables(Call::Change, tables, &numbers, answer, gap)
+}
+
+pub fn name(stations: &[u8], short: u64, answer: &mut [u64; 3]) {
+    ask(Call::Name, &[stations], &[short], answer, &mut [])
+}
+
+pub fn lines_now(text: &[u8], block: &[u8], service: u64, answer: &mut [u64; 4]) {
+    ask(Call::LinesNow, &[text, block], &[service], answer, &mut [])
+}
+
+/// Another process has no other way to the tables than a copy of them.
+fn ask_tables(call: Call, tables: LentTables, numbers: &[u64], words: &mut [u64], minutes: &mut [i32]) {
+    let bytes = tables.map(bytes_of);
+    ask(call, &bytes.each_ref().map(Vec::as_slice), numbers, words, minutes)
+}
+
+fn ask(call: Call, lent: &[&[u8]], numbers: &[u64], words: &mut [u64], minutes: &mut [i32]) {
+    with_servant(|servant| servant.ask(call, lent, numbers, words, minutes))
+}
+
+fn with_servant(work: impl FnOnce(&mut Servant) -> io::Result<()>) {
     let mut servant = SERVANT.lock().unwrap_or_else(PoisonError::into_inner);
-    let loaded = started(&mut servant).and_then(|servant| servant.load(files, tables, answer));
-    loaded.unwrap_or_else(|error| panic!("The emulated load does not answer: {error}."))
+    let done = started(&mut servant).and_then(work);
+    done.unwrap_or_else(|error| panic!("The emulated archive does not answer: {error}."))
 }
 
 fn started(servant: &mut Option<Servant>) -> io::Result<&mut Servant> {
@@ -43,6 +107,17 @@ fn started(servant: &mut Option<Servant>) -> io::Result<&mut Servant> {
 fn is_large_and_blank(file: &[u8]) -> bool {
     const ZEROS: [u8; 4096] = [0; 4096];
     file.len() > GATHERED && file.chunks(ZEROS.len()).all(|part| part == &ZEROS[..part.len()])
+}
+
+fn bytes_of(words: &[u64]) -> Vec<u8> {
+    words.iter().flat_map(|word| word.to_le_bytes()).collect()
+}
+
+/// The numbers, and zeros up to so many.
+fn padded<const COUNT: usize>(numbers: impl IntoIterator<Item = u64>) -> [u64; COUNT] {
+    let mut all = [0; COUNT];
+    all.iter_mut().zip(numbers).for_each(|(place, number)| *place = number);
+    all
 }
 
 impl Servant {
@@ -59,6 +134,7 @@ impl Servant {
 
     fn load(&mut self, files: Files, tables: Tables, answer: &mut Words) -> io::Result<()> {
         let blank = files.map(is_large_and_blank);
+        self.send(&[Call::Load as u64])?;
         self.send(&files.map(|file| file.len() as u64))?;
         self.send(&blank.map(u64::from))?;
         self.send(&tables.each_ref().map(|table| table.len() as u64))?;
@@ -78,9 +154,36 @@ impl Servant {
         Ok(())
     }
 
+    fn ask(
+        &mut self,
+        call: Call,
+        lent: &[&[u8]],
+        numbers: &[u64],
+        words: &mut [u64],
+        minutes: &mut [i32],
+    ) -> io::Result<()> {
+        let mut all_words: [u64; 7] = padded(words.iter().copied());
+        // The sign goes along: a minute's word is its two's complement.
+        let mut all_minutes: [u64; 4] = padded(minutes.iter().map(|&minute| i64::from(minute) as u64));
+        self.send(&[call as u64])?;
+        self.send(&padded::<6>(numbers.iter().copied()))?;
+        self.send(&all_words)?;
+        self.send(&all_minutes)?;
+        self.send(&padded::<FILES>(lent.iter().map(|slice| slice.len() as u64)))?;
+        for slice in lent {
+            self.questions.write_all(slice)?;
+        }
+        self.questions.flush()?;
+
+        self.receive(&mut all_words)?;
+        self.receive(&mut all_minutes)?;
+        words.iter_mut().zip(all_words).for_each(|(word, answered)| *word = answered);
+        minutes.iter_mut().zip(all_minutes).for_each(|(minute, answered)| *minute = answered as i32);
+        Ok(())
+    }
+
     fn send(&mut self, words: &[u64]) -> io::Result<()> {
-        let bytes: Vec<u8> = words.iter().flat_map(|word| word.to_le_bytes()).collect();
-        self.questions.write_all(&bytes)
+        self.questions.write_all(&bytes_of(words))
     }
 
     fn receive(&mut self, words: &mut [u64]) -> io::Result<()> {

@@ -1,13 +1,13 @@
-//! The proved load, called from safe Rust.
+//! The proved load, soundness and questions, called from safe Rust.
 //!
-//! What it answers and leaves is said by the contract of `calyxcabin_load` in
-//! `crates/exports`, which asks nothing of its caller: so the call is safe for
-//! every file and every table.
+//! What they answer and leave is said by the contracts of the functions in
+//! `crates/exports`, which ask nothing of their callers: so the calls are safe
+//! for every file and every table.
 //!
-//! The archive of the proved crates is for x86-64. On any other machine the
-//! load runs in a process of its own under the kit's emulator: the answers are
-//! the same, and times say nothing. `tools/native-archive` makes an archive for
-//! the machine itself, which is linked where `PROVED_NATIVE` is set.
+//! The archive of the proved crates is for x86-64. On any other machine its
+//! functions run in a process of its own under the kit's emulator: the answers
+//! are the same, and times say nothing. `tools/native-archive` makes an archive
+//! for the machine itself, which is linked where `PROVED_NATIVE` is set.
 
 // Both are compiled everywhere, so that neither can go wrong unseen on a machine
 // that takes the other.
@@ -15,13 +15,15 @@
 mod emulated;
 #[cfg_attr(not(linked), allow(dead_code))]
 mod linked;
+mod questions;
 
 #[cfg(not(linked))]
-use emulated::call;
+use emulated as archive;
 #[cfg(linked)]
-use linked::call;
+use linked as archive;
+pub use questions::*;
 
-/// Whether the load runs under an emulator.
+/// Whether the archive's functions run under an emulator.
 pub const EMULATED: bool = cfg!(not(linked));
 
 /// How many files a delivery has.
@@ -29,6 +31,7 @@ pub const FILES: usize = 11;
 
 type Files<'a> = [&'a [u8]; FILES];
 type Tables<'a> = [&'a mut [u64]; FILES];
+type LentTables<'a> = [&'a [u64]; FILES];
 
 /// An answer as the archive gives it: the refusal's number, its file, ordinal
 /// and line, the days and the services.
@@ -61,7 +64,7 @@ impl Answer {
     }
 }
 
-/// What no load answers in any place: a word that is left as it was shows.
+/// What no call answers in any place: a word that is left as it was shows.
 const UNANSWERED: u64 = u64::MAX;
 
 /// Loads a delivery into eleven tables. Files and tables stand in reading
@@ -70,7 +73,7 @@ const UNANSWERED: u64 = u64::MAX;
 /// reckoned from its arrays.
 pub fn load(files: [&[u8]; FILES], tables: [&mut [u64]; FILES]) -> Answer {
     let mut words: Words = [UNANSWERED; 6];
-    call(files, tables, &mut words);
+    archive::load(files, tables, &mut words);
     let [number, file, ordinal, line, days, services] = words;
     Answer { number, file, ordinal, line, days, services }
 }

@@ -1,64 +1,90 @@
-//! The load in the archive that this program is linked with.
+//! The functions of the archive that this program is linked with.
 
-use crate::{Files, Tables, Words};
+use crate::{Files, LentTables, Side, Tables, Words};
 
-pub fn call(files: Files, tables: Tables, answer: &mut Words) {
+/// Calls a function of the archive: what is only read comes first, then what is
+/// written, each slice as a pointer and a length, then all else.
+macro_rules! call {
+    ($function:ident(read $($read:ident)*, written $($written:ident)*, $($other:expr),*)) => {
+        // SAFETY: each pointer comes with the length of the slice that it was
+        // taken from, the slices and arrays outlive the call, and what is
+        // written is borrowed by the caller alone.
+        unsafe {
+            $function(
+                $($read.as_ptr(), $read.len(),)*
+                $($written.as_mut_ptr(), $written.len(),)*
+                $($other),*
+            )
+        }
+    };
+}
+
+/// Calls a function that is lent a loaded store.
+macro_rules! ask {
+    ($function:ident, $tables:ident, $($other:expr),*) => {{
+        let [delivery, company, country, trnsmode, timezone, stations, footnote, timetbls, changes, xfootnote, xchanges] =
+            $tables;
+        call!($function(
+            read delivery company country trnsmode timezone stations footnote timetbls changes xfootnote xchanges,
+            written,
+            $($other),*
+        ))
+    }};
+}
+
+pub fn load(files: Files, tables: Tables, answer: &mut Words) {
     let [delivery, company, country, trnsmode, timezone, stations, footnote, timetbls, changes, xfootnote, xchanges] =
         files;
     let [t_delivery, t_company, t_country, t_trnsmode, t_timezone, t_stations, t_footnote, t_timetbls, t_changes, t_xfootnote, t_xchanges] =
         tables;
-    // SAFETY: each pointer comes with the length of the slice that it was taken
-    // from, the slices outlive the call, and what is written is borrowed by
-    // `tables` and `answer` alone.
-    unsafe {
-        calyxcabin_load(
-            delivery.as_ptr(),
-            delivery.len(),
-            company.as_ptr(),
-            company.len(),
-            country.as_ptr(),
-            country.len(),
-            trnsmode.as_ptr(),
-            trnsmode.len(),
-            timezone.as_ptr(),
-            timezone.len(),
-            stations.as_ptr(),
-            stations.len(),
-            footnote.as_ptr(),
-            footnote.len(),
-            timetbls.as_ptr(),
-            timetbls.len(),
-            changes.as_ptr(),
-            changes.len(),
-            xfootnote.as_ptr(),
-            xfootnote.len(),
-            xchanges.as_ptr(),
-            xchanges.len(),
-            t_delivery.as_mut_ptr(),
-            t_delivery.len(),
-            t_company.as_mut_ptr(),
-            t_company.len(),
-            t_country.as_mut_ptr(),
-            t_country.len(),
-            t_trnsmode.as_mut_ptr(),
-            t_trnsmode.len(),
-            t_timezone.as_mut_ptr(),
-            t_timezone.len(),
-            t_stations.as_mut_ptr(),
-            t_stations.len(),
-            t_footnote.as_mut_ptr(),
-            t_footnote.len(),
-            t_timetbls.as_mut_ptr(),
-            t_timetbls.len(),
-            t_changes.as_mut_ptr(),
-            t_changes.len(),
-            t_xfootnote.as_mut_ptr(),
-            t_xfootnote.len(),
-            t_xchanges.as_mut_ptr(),
-            t_xchanges.len(),
-            answer,
-        );
-    }
+    call!(calyxcabin_load(
+        read delivery company country trnsmode timezone stations footnote timetbls changes xfootnote xchanges,
+        written t_delivery t_company t_country t_trnsmode t_timezone t_stations t_footnote t_timetbls t_changes
+            t_xfootnote t_xchanges,
+        answer
+    ))
+}
+
+pub fn is_sound(tables: LentTables) -> u64 {
+    ask!(calyxcabin_is_sound, tables,)
+}
+
+pub fn running_day(tables: LentTables, service: u64, leg: u64, date: u64, answer: &mut [u64; 2]) {
+    ask!(calyxcabin_running_day, tables, service, leg, date, answer)
+}
+
+pub fn stop_time(
+    tables: LentTables,
+    service: u64,
+    stop: u64,
+    date: u64,
+    answer: &mut [u64; 4],
+    minutes: &mut [i32; 4],
+) {
+    ask!(calyxcabin_stop_time, tables, service, stop, date, answer, minutes)
+}
+
+pub fn change(tables: LentTables, from: Side, to: Side, answer: &mut [u64; 7], gap: &mut [i32; 1]) {
+    ask!(
+        calyxcabin_change,
+        tables,
+        from.service,
+        from.stop,
+        from.date,
+        to.service,
+        to.stop,
+        to.date,
+        answer,
+        gap
+    )
+}
+
+pub fn name(stations: &[u8], short: u64, answer: &mut [u64; 3]) {
+    call!(calyxcabin_name(read stations, written, short, answer))
+}
+
+pub fn lines_now(text: &[u8], block: &[u8], service: u64, answer: &mut [u64; 4]) {
+    call!(calyxcabin_lines_now(read text block, written, service, answer))
 }
 
 extern "C" {
@@ -108,5 +134,133 @@ extern "C" {
         t_xchanges: *mut u64,
         t_xchanges_len: usize,
         answer: *mut Words,
+    );
+
+    fn calyxcabin_is_sound(
+        delivery: *const u64,
+        delivery_len: usize,
+        company: *const u64,
+        company_len: usize,
+        country: *const u64,
+        country_len: usize,
+        trnsmode: *const u64,
+        trnsmode_len: usize,
+        timezone: *const u64,
+        timezone_len: usize,
+        stations: *const u64,
+        stations_len: usize,
+        footnote: *const u64,
+        footnote_len: usize,
+        timetbls: *const u64,
+        timetbls_len: usize,
+        changes: *const u64,
+        changes_len: usize,
+        xfootnote: *const u64,
+        xfootnote_len: usize,
+        xchanges: *const u64,
+        xchanges_len: usize,
+    ) -> u64;
+
+    fn calyxcabin_running_day(
+        delivery: *const u64,
+        delivery_len: usize,
+        company: *const u64,
+        company_len: usize,
+        country: *const u64,
+        country_len: usize,
+        trnsmode: *const u64,
+        trnsmode_len: usize,
+        timezone: *const u64,
+        timezone_len: usize,
+        stations: *const u64,
+        stations_len: usize,
+        footnote: *const u64,
+        footnote_len: usize,
+        timetbls: *const u64,
+        timetbls_len: usize,
+        changes: *const u64,
+        changes_len: usize,
+        xfootnote: *const u64,
+        xfootnote_len: usize,
+        xchanges: *const u64,
+        xchanges_len: usize,
+        service: u64,
+        leg: u64,
+        date: u64,
+        answer: *mut [u64; 2],
+    );
+
+    fn calyxcabin_stop_time(
+        delivery: *const u64,
+        delivery_len: usize,
+        company: *const u64,
+        company_len: usize,
+        country: *const u64,
+        country_len: usize,
+        trnsmode: *const u64,
+        trnsmode_len: usize,
+        timezone: *const u64,
+        timezone_len: usize,
+        stations: *const u64,
+        stations_len: usize,
+        footnote: *const u64,
+        footnote_len: usize,
+        timetbls: *const u64,
+        timetbls_len: usize,
+        changes: *const u64,
+        changes_len: usize,
+        xfootnote: *const u64,
+        xfootnote_len: usize,
+        xchanges: *const u64,
+        xchanges_len: usize,
+        service: u64,
+        stop: u64,
+        date: u64,
+        answer: *mut [u64; 4],
+        minutes: *mut [i32; 4],
+    );
+
+    fn calyxcabin_change(
+        delivery: *const u64,
+        delivery_len: usize,
+        company: *const u64,
+        company_len: usize,
+        country: *const u64,
+        country_len: usize,
+        trnsmode: *const u64,
+        trnsmode_len: usize,
+        timezone: *const u64,
+        timezone_len: usize,
+        stations: *const u64,
+        stations_len: usize,
+        footnote: *const u64,
+        footnote_len: usize,
+        timetbls: *const u64,
+        timetbls_len: usize,
+        changes: *const u64,
+        changes_len: usize,
+        xfootnote: *const u64,
+        xfootnote_len: usize,
+        xchanges: *const u64,
+        xchanges_len: usize,
+        from_service: u64,
+        from_stop: u64,
+        from_date: u64,
+        to_service: u64,
+        to_stop: u64,
+        to_date: u64,
+        answer: *mut [u64; 7],
+        gap: *mut [i32; 1],
+    );
+
+    fn calyxcabin_name(stations: *const u8, stations_len: usize, short: u64, answer: *mut [u64; 3]);
+
+    fn calyxcabin_lines_now(
+        text: *const u8,
+        text_len: usize,
+        block: *const u8,
+        block_len: usize,
+        service: u64,
+        answer: *mut [u64; 4],
     );
 }

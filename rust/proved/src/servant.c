@@ -1,10 +1,13 @@
-// The archive is for x86-64. Where the machine is another, this program holds it, runs under the kit's emulator, and loads one
-// delivery after another for `emulated.rs`, which says what is read and written. It stands alone: no C library.
+// The archive is for x86-64. Where the machine is another, this program holds it, runs under the kit's emulator, and does one call
+// after another for `emulated.rs`, which says what is read and written. It stands alone: no C library.
 
 typedef unsigned char u8;
 typedef unsigned long u64;
+typedef int i32;
 
-enum { FILES = 11, ANSWER = 6 };
+enum { FILES = 11, ANSWER = 6, NUMBERS = 6, WORDS = 7, MINUTES = 4 };
+// The calls by number, as `emulated.rs` has them.
+enum { LOAD, IS_SOUND, RUNNING_DAY, STOP_TIME, CHANGE, NAME, LINES_NOW };
 enum { READ = 0, WRITE = 1, MMAP = 9, MUNMAP = 11, EXIT = 60, PRCTL = 157 };
 enum { SIGNAL_WHEN_THE_PARENT_DIES = 1, KILL = 9 };
 enum { READ_AND_WRITE = 3, PRIVATE_AND_OF_NO_FILE = 0x22 };
@@ -15,6 +18,29 @@ void calyxcabin_load(
     u64 *, u64, u64 *, u64, u64 *, u64, u64 *, u64, u64 *, u64, u64 *, u64,
     u64 *, u64, u64 *, u64, u64 *, u64, u64 *, u64, u64 *, u64,
     u64 *);
+
+u64 calyxcabin_is_sound(
+    const u64 *, u64, const u64 *, u64, const u64 *, u64, const u64 *, u64, const u64 *, u64, const u64 *, u64,
+    const u64 *, u64, const u64 *, u64, const u64 *, u64, const u64 *, u64, const u64 *, u64);
+
+void calyxcabin_running_day(
+    const u64 *, u64, const u64 *, u64, const u64 *, u64, const u64 *, u64, const u64 *, u64, const u64 *, u64,
+    const u64 *, u64, const u64 *, u64, const u64 *, u64, const u64 *, u64, const u64 *, u64,
+    u64, u64, u64, u64 *);
+
+void calyxcabin_stop_time(
+    const u64 *, u64, const u64 *, u64, const u64 *, u64, const u64 *, u64, const u64 *, u64, const u64 *, u64,
+    const u64 *, u64, const u64 *, u64, const u64 *, u64, const u64 *, u64, const u64 *, u64,
+    u64, u64, u64, u64 *, i32 *);
+
+void calyxcabin_change(
+    const u64 *, u64, const u64 *, u64, const u64 *, u64, const u64 *, u64, const u64 *, u64, const u64 *, u64,
+    const u64 *, u64, const u64 *, u64, const u64 *, u64, const u64 *, u64, const u64 *, u64,
+    u64, u64, u64, u64, u64, u64, u64 *, i32 *);
+
+void calyxcabin_name(const u8 *, u64, u64, u64 *);
+
+void calyxcabin_lines_now(const u8 *, u64, const u8 *, u64, u64, u64 *);
 
 static long system_call(long number, long a, long b, long c, long d, long e, long f)
 {
@@ -87,13 +113,13 @@ void *memcpy(void *restrict to, const void *restrict from, u64 count)
     return to;
 }
 
-// Memory that grows with the deliveries.
+// Memory that grows with what is lent.
 struct held {
     u8 *at;
     u64 bytes;
 };
 
-static struct held delivery, zeros;
+static struct held lent, zeros;
 
 static u8 *room_for(struct held *held, u64 bytes)
 {
@@ -126,7 +152,7 @@ static void load_one(void)
     }
     // A load writes to no file, so zeros stay zeros, and one stretch of them serves all files.
     const u8 *blank_text = room_for(&zeros, blanks);
-    u8 *tables = room_for(&delivery, words * sizeof(u64) + bytes + 1);
+    u8 *tables = room_for(&lent, words * sizeof(u64) + bytes + 1);
     u8 *next = tables;
     for (int k = 0; k < FILES; k++) {
         t[k] = (u64 *)next;
@@ -147,12 +173,70 @@ static void load_one(void)
     give(tables, words * sizeof(u64));
 }
 
+static void ask_one(u64 call)
+{
+    u64 q[NUMBERS], w[WORDS], minutes[MINUTES], bytes[FILES], n[FILES], all = 0;
+    const u64 *t[FILES];
+    const u8 *f[FILES];
+    i32 m[MINUTES];
+    take(q, sizeof q);
+    take(w, sizeof w);
+    take(minutes, sizeof minutes);
+    take(bytes, sizeof bytes);
+    for (int k = 0; k < MINUTES; k++)
+        m[k] = (i32)minutes[k];
+    for (int k = 0; k < FILES; k++)
+        all += bytes[k];
+    u8 *slices = room_for(&lent, all + 1);
+    for (u64 k = 0, next = 0; k < FILES; next += bytes[k], k++) {
+        // Slices are tables or texts, never both: so tables are aligned.
+        f[k] = slices + next;
+        t[k] = (const u64 *)f[k];
+        n[k] = bytes[k] / sizeof(u64);
+    }
+    take(slices, all);
+#define TABLES                                                                                                         \
+    t[0], n[0], t[1], n[1], t[2], n[2], t[3], n[3], t[4], n[4], t[5], n[5], t[6], n[6], t[7], n[7], t[8], n[8], t[9], n[9], t[10], n[10]
+    switch (call) {
+    case IS_SOUND:
+        w[0] = calyxcabin_is_sound(TABLES);
+        break;
+    case RUNNING_DAY:
+        calyxcabin_running_day(TABLES, q[0], q[1], q[2], w);
+        break;
+    case STOP_TIME:
+        calyxcabin_stop_time(TABLES, q[0], q[1], q[2], w, m);
+        break;
+    case CHANGE:
+        calyxcabin_change(TABLES, q[0], q[1], q[2], q[3], q[4], q[5], w, m);
+        break;
+    case NAME:
+        calyxcabin_name(f[0], bytes[0], q[0], w);
+        break;
+    case LINES_NOW:
+        calyxcabin_lines_now(f[0], bytes[0], f[1], bytes[1], q[0], w);
+        break;
+    default:
+        leave(3);
+    }
+    for (int k = 0; k < MINUTES; k++)
+        minutes[k] = (u64)m[k];
+    give(w, sizeof w);
+    give(minutes, sizeof minutes);
+}
+
 _Noreturn void serve(void)
 {
-    // A long load must not go on when nobody waits for it.
+    // A long call must not go on when nobody waits for it.
     system_call(PRCTL, SIGNAL_WHEN_THE_PARENT_DIES, KILL, 0, 0, 0, 0);
-    for (;;)
-        load_one();
+    for (;;) {
+        u64 call;
+        take(&call, sizeof call);
+        if (call == LOAD)
+            load_one();
+        else
+            ask_one(call);
+    }
 }
 
 // The program begins with its stack aligned; a function expects to have been called.

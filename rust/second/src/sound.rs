@@ -14,18 +14,39 @@ use crate::values::Day;
 
 /// The store that the tables show; 16 if they are not sound.
 pub fn open(tables: &[Vec<u64>; FILES]) -> Result<Store, Refusal> {
-    shown(tables).ok_or(Fault::NotSound.nowhere())
+    examine(tables).map_err(|_| Fault::NotSound.nowhere())
 }
 
-fn shown(tables: &[Vec<u64>; FILES]) -> Option<Store> {
+/// Why tables are not sound.
+#[derive(Clone, Copy, Debug, PartialEq, Eq)]
+pub enum Unsound {
+    /// A row stands for no line: its first word is none of the file's letters,
+    /// or a number has too many digits for its field.
+    NoSuchLine,
+    /// The delivery that the rows stand for is refused.
+    Refused(Refusal),
+    /// The delivery's own tables differ in unused places or derived words.
+    OtherTables,
+}
+
+/// The store that the tables show, or why they are not sound.
+pub fn examine(tables: &[Vec<u64>; FILES]) -> Result<Store, Unsound> {
+    let texts = texts_of(tables).ok_or(Unsound::NoSuchLine)?;
+    let lens = tables.each_ref().map(Vec::len);
+    let store = load(&texts.each_ref().map(Vec::as_slice), &rooms_of(&lens)).map_err(Unsound::Refused)?;
+    if encode(&store, &lens) != *tables {
+        return Err(Unsound::OtherTables);
+    }
+    Ok(store)
+}
+
+fn texts_of(tables: &[Vec<u64>; FILES]) -> Option<[Vec<u8>; FILES]> {
     let days = days_of(&tables[File::Delivery.index()]);
     let mut texts: [Vec<u8>; FILES] = Default::default();
     for file in File::ALL {
         texts[file.index()] = text_of(file, &tables[file.index()], days)?;
     }
-    let lens = tables.each_ref().map(Vec::len);
-    let store = load(&texts.each_ref().map(Vec::as_slice), &rooms_of(&lens)).ok()?;
-    (encode(&store, &lens) == *tables).then_some(store)
+    Some(texts)
 }
 
 /// The days of validity, which give the vectors their length; 0 where the

@@ -7,7 +7,7 @@ use Rattle.references.proofs.met_change.Tie as tie
 
 returns : tie.Need-returns
 unfolding metInGroup
-returns c k a = rw (eq-eqb _ _ (c .before .before .if1 .taken), a .stations) (c .names-among .ensures)
+returns c k a = rw (eq-eqb _ _ (c .before .before .if1 .taken), a .stations) (c .names-at .ensures)
 
 returns-2 : tie.Need-returns-2
 unfolding metInGroup

@@ -7,13 +7,13 @@ use Rattle.references.proofs.References.{sides-met}
 use Rattle.references.proofs.met_exception.Statement.{statement}
 use Rattle.references.proofs.met_exception.Tie as tie
 
--- the start, before the five slices
-abbrev start : tie.After-shared-slice-known5 → tie.Start
-start c = c .before .before .before .before .before
+-- the start, before the six slices
+abbrev start : tie.After-shared-slice-known6 → tie.Start
+start c = c .before .before .before .before .before .before
 
 returns : tie.Need-returns
 unfolding metInGroup
-returns c k a = rw (eq-eqb _ _ (c .before .before .if1 .taken), a .stations) (c .names-among .ensures)
+returns c k a = rw (eq-eqb _ _ (c .before .before .if1 .taken), a .stations) (c .names-at .ensures)
 
 returns-2 : tie.Need-returns-2
 unfolding metInGroup

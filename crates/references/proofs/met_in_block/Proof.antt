@@ -11,7 +11,7 @@ returns c k a = rw (eq-eqb _ _ (c .if1 .taken))
 
 returns-2 : tie.Need-returns-2
 unfolding metInBlock
-returns-2 c k a = rw (ne-eqb _ _ (c .before .before .if1 .left), eq-eqb _ _ (c .before .if2 .taken), a .companies) (c .names-among .ensures)
+returns-2 c k a = rw (ne-eqb _ _ (c .before .before .if1 .left), eq-eqb _ _ (c .before .if2 .taken), a .companies) (c .names-at .ensures)
 
 returns-3 : tie.Need-returns-3
 unfolding metInBlock
@@ -22,7 +22,7 @@ returns-3 c k a =
       eq-eqb _ _ (c .before .if3 .taken),
       a .footnotes,
     )
-    (c .names-at .ensures)
+    (c .names-at2 .ensures)
 
 returns-4 : tie.Need-returns-4
 unfolding metInBlock
@@ -34,7 +34,7 @@ returns-4 c k a =
       eq-eqb _ _ (c .before .if4 .taken),
       a .modes,
     )
-    (c .names-among2 .ensures)
+    (c .names-at3 .ensures)
 
 returns-5 : tie.Need-returns-5
 unfolding metInBlock
@@ -47,7 +47,7 @@ returns-5 c k a =
       eq-eqb _ _ (c .before .if5 .taken),
       a .footnotes,
     )
-    (c .names-at2 .ensures)
+    (c .names-at4 .ensures)
 
 returns-6 : tie.Need-returns-6
 unfolding metInBlock
@@ -61,7 +61,7 @@ returns-6 c k a =
       eq-eqb _ _ (c .before .if6 .taken),
       a .footnotes,
     )
-    (c .names-at3 .ensures)
+    (c .names-at5 .ensures)
 
 returns-7 : tie.Need-returns-7
 unfolding metInBlock
@@ -75,7 +75,7 @@ returns-7 c k a =
       ne-eqb _ _ (c .before .if6 .left),
       a .stations,
     )
-    (c .names-at4 .ensures)
+    (c .names-at6 .ensures)
 
 pub met-in-block-spec : {M : Type 1} → statement M
 met-in-block-spec =

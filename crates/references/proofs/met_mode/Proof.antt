@@ -9,7 +9,7 @@ returns : tie.Need-returns
 returns c = rw (any-mode, eq-eqb _ _ (c .if1 .taken))
 
 returns-2 : tie.Need-returns-2
-returns-2 c = rw (any-mode, ne-eqb _ _ (c .before .if1 .left)) (c .names-among .ensures)
+returns-2 c = rw (any-mode, ne-eqb _ _ (c .before .if1 .left)) (c .names-at .ensures)
 
 pub met-mode-spec : {M : Type 1} → statement M
 met-mode-spec = tie.close (tie.spec returns (λ c κs. search needs) returns-2)

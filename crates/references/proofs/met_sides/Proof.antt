@@ -7,7 +7,7 @@ returns : tie.Need-returns
 returns c =
     let b = c .before .before in
     let a = b .before .before .before .before in
-    rw (← a .before .met-side .ensures, a .if1 .taken, ← b .before .met-side2 .ensures, b .if2 .taken) (c .names-among .ensures)
+    rw (← a .before .met-side .ensures, a .if1 .taken, ← b .before .met-side2 .ensures, b .if2 .taken) (c .names-at .ensures)
 
 returns-2 : tie.Need-returns-2
 returns-2 c =

@@ -126,7 +126,7 @@ impl Cause {
     /// A delivery with this cause alone, and where it is refused for it; none
     /// if the seed's delivery has no place for it.
     pub fn case(&self, seed: u64) -> Option<(Case, Place)> {
-        let mut case = full(seed);
+        let (_, mut case) = full(seed);
         let place = (self.edit)(&mut Rng::new(!seed), &mut case)?;
         if self.number != 2 {
             for (room, file) in case.rooms.iter_mut().zip(&case.files) {

@@ -1,7 +1,7 @@
 //! What the tests of deliveries share.
 #![allow(dead_code)] // Each test program uses a part of this.
 
-use deliveries::{at_borders, sound, Case, World};
+use deliveries::Case;
 use second::{load, Refusal, Store};
 
 /// A refusal's number, file, ordinal and line.
@@ -13,14 +13,6 @@ pub fn place_of(refusal: Refusal) -> Place {
 
 pub fn outcome(case: &Case) -> Result<Store, Place> {
     load(&case.texts(), &case.rooms).map_err(place_of)
-}
-
-/// A sound delivery, one in four at the borders.
-pub fn sound_of_both_sorts(seed: u64) -> (World, Case) {
-    match seed % 4 {
-        0 => at_borders(seed),
-        _ => sound(seed),
-    }
 }
 
 /// Test 11 as a search in the block's text.

@@ -1,0 +1,118 @@
+-- The core of a change, step by step: the hurdles, 15 for either station, the verdict. Assumes nothing.
+use Prim.Native.Nat.{ℕ}
+use mathlib.Core.Path.{_≡_, refl, ap, sym, _∙_}
+use mathlib.Core.List.{List}
+use mathlib.Core.Bool.{true, false}
+use Rattle.iff.specs.Files.{PerFile}
+use Rattle.iff.specs.Refusals.{firstTest}
+use Rattle.iff.specs.Tables.{Row, rowsIn}
+use Rattle.iff.specs.Words.{named}
+use Rattle.iff.specs.declared.Reason.the-variants.{NoPeriod}
+use Rattle.iff.specs.declared.Test.{Test}
+use Rattle.iff.specs.declared.Test.the-variants.{Passes, Fails}
+use Rattle.iff.specs.declared.File.the-variants.{Timetbls}
+use Rattle.iff_desk.specs.Store.{groupOf, serviceRows, stopAt, periodOn, isThere}
+use Rattle.iff_desk.specs.Changing.{Hurdle, stop, clear, firstHurdle, afterHurdles, changeAfter, coreChange}
+use Rattle.iff_desk.specs.declared.Call.{Call}
+use Rattle.iff_desk.specs.declared.Early.{Early}
+use Rattle.iff_desk.specs.declared.Early.the-variants.{SameService}
+use Rattle.iff_desk.specs.declared.Change.{Change}
+use Rattle.iff_desk.specs.declared.Change.the-variants.{ChangeRefused, NoBefore}
+use Rattle.changing.specs.Sides.{
+  rowsFound,
+  stopFound,
+  SideFor,
+  isSame,
+  laterHurdle,
+  verdictBy,
+  periodTests,
+  judgedOn,
+  laterOf,
+  laterChange,
+}
+use Rattle.changing.specs.declared.SideRows.{SideRows}
+
+-- 15
+module _ (pa pb : Row) (c : Change) where
+  pub no-first : isThere pa ≡ false → ChangeRefused NoPeriod ≡ changeAfter (periodTests pa pb) c
+  unfolding firstTest
+  no-first h = rw h
+
+  pub no-second : isThere pa ≡ true → isThere pb ≡ false → ChangeRefused NoPeriod ≡ changeAfter (periodTests pa pb) c
+  unfolding firstTest
+  no-second h g = rw (h, g)
+
+  pub both-there : isThere pa ≡ true → isThere pb ≡ true → c ≡ changeAfter (periodTests pa pb) c
+  unfolding firstTest
+  both-there h g = rw (h, g)
+
+-- the verdict by the periods' own rows
+pub same-periods : (R : PerFile (List Row)) (aRows bRows : List Row) (a b pa pa' pb pb' : Row) (station : ℕ) (A B : Call) → pa ≡ pa' → pb ≡ pb'
+    → verdictBy R aRows bRows a b pa' pb' station A B ≡ verdictBy R aRows bRows a b pa pb station A B
+same-periods R aRows bRows a b pa pa' pb pb' station A B p q =
+    ap (λ (x : Row). verdictBy R aRows bRows a b x pb' station A B) (sym p)
+    ∙ ap (λ (x : Row). verdictBy R aRows bRows a b pa x station A B) (sym q)
+
+-- the hurdles that ask for rows, then 15 and the verdict
+after-clear : (t : Test) (c : Change) → changeAfter t c ≡ afterHurdles clear t c
+after-clear Passes c = refl
+after-clear (Fails r) c = refl
+
+module _ (R : PerFile (List Row)) (aRows bRows : List Row) (a b : Row) (station other : ℕ) (A B : Call) where
+  abbrev tests : Test
+  tests = periodTests (periodOn R station (A .day)) (periodOn R other (B .day))
+
+  abbrev verdict : Change
+  verdict = verdictBy R aRows bRows a b (periodOn R station (A .day)) (periodOn R other (B .day)) station A B
+
+  pub later-stops : (e : Early) → laterHurdle R aRows bRows A B ≡ stop e → NoBefore e ≡ laterOf R aRows bRows a b station other A B
+  unfolding laterOf
+  later-stops e q = sym (ap (λ (h : Hurdle). afterHurdles h tests verdict) q)
+
+  pub later-clear : laterHurdle R aRows bRows A B ≡ clear → judgedOn R aRows bRows a b station other A B ≡ laterOf R aRows bRows a b station other A B
+  unfolding laterOf
+  later-clear q = after-clear tests verdict ∙ sym (ap (λ (h : Hurdle). afterHurdles h tests verdict) q)
+
+-- rows, stops and stations are those that were found
+module _ (R : PerFile (List Row)) (tt : List ℕ) (A B : Call) (a b : SideRows) (e : R .timetbls ≡ rowsIn Timetbls tt) (s : SideFor tt A a)
+    (u : SideFor tt B b) where
+  first-rows : serviceRows R (A .service) ≡ rowsFound tt a
+  first-rows = ap (groupOf (A .service)) e ∙ s .rows
+
+  second-rows : serviceRows R (B .service) ≡ rowsFound tt b
+  second-rows = ap (groupOf (B .service)) e ∙ u .rows
+
+  -- by some rows
+  abbrev byRows : List Row → List Row → Change
+  byRows aRows bRows =
+      laterOf R aRows bRows (stopAt aRows (A .stop)) (stopAt bRows (B .stop)) (named (stopAt aRows (A .stop))) (named (stopAt bRows (B .stop))) A B
+
+  -- by the rows found and some stops and stations
+  abbrev byStops : Row → Row → ℕ → ℕ → Change
+  byStops x y m n = laterOf R (rowsFound tt a) (rowsFound tt b) x y m n A B
+
+  abbrev firstStop : Row
+  firstStop = stopAt (rowsFound tt a) (A .stop)
+
+  abbrev secondStop : Row
+  secondStop = stopAt (rowsFound tt b) (B .stop)
+
+  pub sides-found : laterOf R (rowsFound tt a) (rowsFound tt b) (stopFound tt a) (stopFound tt b) (a .station) (b .station) A B ≡ laterChange R A B
+  sides-found =
+      sym
+      (ap (λ (rs : List Row). byRows rs (serviceRows R (B .service))) first-rows
+      ∙ ap (λ (rs : List Row). byRows (rowsFound tt a) rs) second-rows
+      ∙ ap (λ (n : ℕ). byStops firstStop secondStop n (named secondStop)) (sym (s .station))
+      ∙ ap (λ (n : ℕ). byStops firstStop secondStop (a .station) n) (sym (u .station))
+      ∙ ap (λ (x : Row). byStops x secondStop (a .station) (b .station)) (s .row .is)
+      ∙ ap (λ (x : Row). byStops (stopFound tt a) x (a .station) (b .station)) (u .row .is))
+
+-- the first hurdle
+module _ (R : PerFile (List Row)) (A B : Call) where
+  pub one-service : isSame A B ≡ true → NoBefore SameService ≡ coreChange R A B
+  unfolding coreChange firstHurdle
+  one-service h = rw h
+
+  pub two-services : isSame A B ≡ false → laterChange R A B ≡ coreChange R A B
+  unfolding coreChange laterOf firstHurdle
+  two-services h = rw h

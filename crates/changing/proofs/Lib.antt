@@ -1,0 +1,6 @@
+pub mod ZoneLaws
+pub mod GapLaws
+pub mod HurdleLaws
+pub mod NeededLaws
+pub mod CoreLaws
+pub mod AskLaws

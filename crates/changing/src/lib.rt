@@ -1,0 +1,834 @@
+// "Change: from service A at stop i (2 to n) on its date to B at stop j (1 to n-1) on its date.", of a store that was found sound: a precheck, which
+// answers refusals, and a core, which answers whether the change is a No, a Yes or Unsettled. A table comes with the number of its rows in use, and
+// with places, a hint where keys stand, on which nothing rests. What the answer does not need is not looked for.
+use iff::DayOf;
+use iff::File;
+use iff::GroupFile;
+use iff::Reason;
+use iff::RowOf;
+use iff::Test;
+use iff::tags;
+use iff::words;
+use iff_desk::Best;
+use iff_desk::Call;
+use iff_desk::Change;
+use iff_desk::Early;
+use iff_desk::Pair;
+use iff_desk::Riding;
+use iff_desk::TimeOf;
+use store::Part;
+ghost use mathlib.Core.Path.{_≡_};
+ghost use mathlib.Core.List.{List};
+ghost use mathlib.Core.Bool.{_&&_};
+ghost use Prim.Native.Nat.{_-_, _<_};
+ghost use lib.Dec.{leb};
+ghost use Rattle.iff.specs.Days.{longest};
+ghost use Rattle.iff.specs.Files.{PerFile};
+ghost use Rattle.iff.specs.Tables.{Row, rowWidth, rowsIn};
+ghost use Rattle.iff.specs.Words.{named, changeFlag, changeTime};
+ghost use Rattle.iff.specs.declared.RowFile.the-variants.{Stations};
+ghost use Rattle.iff.specs.declared.GroupFile.the-variants.{Timezone, Footnote, Changes, Xfootnote, Xchanges};
+ghost use Rattle.iff.specs.declared.File.the-variants.{Delivery, Rows, Groups, Timetbls};
+ghost use Rattle.iff_desk.specs.Store.{recordOn, stationRow, numberOn};
+ghost use Rattle.iff_desk.specs.Stops.{timesBy};
+ghost use Rattle.iff_desk.specs.Changing.{callOf, ridingOn, core, gapBetween, coreChange, precheck as precheckOf, changeAfter};
+ghost use Rattle.iff_desk.specs.declared.Pair.the-variants.{NoPair};
+ghost use Rattle.store.specs.Found.{Stored, rowsOf, rowOr, Inside};
+ghost use Rattle.stop_times.specs.Times.{FewMinutes};
+ghost use Rattle.changing.specs.Agree.{ZoneRows, NeedRows, RowsOf, ZonesReady, NeedReady, Ready, PeriodFor, Timed};
+ghost use Rattle.changing.specs.Sides.{SideFor, sideOf, rowsFound, stopFound, hurdleOf, runHurdle, stopHurdle, laterHurdle, isSame};
+ghost use Rattle.changing.specs.Sides.{bestFor, verdictOn, verdictBy, judgedOn, laterChange, askedFrom, askedTo};
+
+// Rows in use of the tables that a change reads.
+pub struct StoreCounts {
+    pub delivery: usize,
+    pub timezone: usize,
+    pub stations: usize,
+    pub footnote: usize,
+    pub timetbls: usize,
+    pub changes: usize,
+    pub xfootnote: usize,
+    pub xchanges: usize,
+}
+
+// One side of a change as it is asked: a service, a stop of it, and a date.
+pub struct Visit {
+    pub service: u64,
+    pub stop: u64,
+    pub date: u64,
+}
+
+// One side as it was found: the service's rows, the row of the stop, and the station there.
+pub struct SideRows {
+    pub part: Part,
+    pub row: RowOf,
+    pub station: u64,
+}
+
+// The first No before a gap, or none.
+pub enum FirstNo {
+    Stops(Early),
+    Clear,
+}
+
+// SIDES
+
+// The leg that ends at a stop.
+fn leg_before(stop: u64) -> u64
+    ensures { λ r. ⌜ r ≡ stop - 1 ⌝ }
+{
+    if stop == 0 { 0 } else { stop - 1 }
+}
+
+// What the record of a kind names that a leg lies in.
+fn named_on(timetbls: &[u64], part: Part, kind: u64, leg: u64) -> u64
+    requires { ⌜ Inside (rowWidth Timetbls) (now timetbls) part ⌝ }
+    ensures { λ r. ⌜ r ≡ named (recordOn kind leg (rowsOf (rowWidth Timetbls) (now (timetbls .entry)) part)) ⌝ }
+{
+    let row = store::record_row(timetbls, part, kind, leg);
+    store::word_of(timetbls, tables::BLOCK_WIDTH, row, words::NAMED)
+}
+
+// Company and mode of a service on a leg.
+pub fn riding_on(timetbls: &[u64], part: Part, leg: u64) -> Riding
+    requires { ⌜ Inside (rowWidth Timetbls) (now timetbls) part ⌝ }
+    ensures { λ r. ⌜ r ≡ ridingOn (rowsOf (rowWidth Timetbls) (now (timetbls .entry)) part) leg ⌝ }
+{
+    Riding {
+        company: named_on(timetbls, part, tags::PERCENT, leg),
+        mode: named_on(timetbls, part, tags::AMPERSAND, leg),
+    }
+}
+
+// A service's rows, the row of its stop, and the station there.
+fn find_side(timetbls: &[u64], used: usize, places: &[u32], call: Call) -> SideRows
+    requires { ⌜ Stored Timetbls used (now timetbls) ⌝ }
+    ensures { λ r. ⌜ SideFor (now (timetbls .entry)) call r ⌝ }
+{
+    let part = store::find_group(File::Timetbls, timetbls, used, places, call.service);
+    let row = store::stop_row(timetbls, part, call.stop);
+    SideRows {
+        part: part,
+        row: row,
+        station: store::word_of(timetbls, tables::BLOCK_WIDTH, row, words::NAMED),
+    }
+}
+
+// ZONES
+
+// A day of validity, counted from the first day, as a day's number.
+fn number_on(delivery: &[u64], used: usize, day: u64) -> u64
+    requires { ⌜ Stored Delivery used (now delivery) × (day < longest) ⌝ }
+    ensures { λ r. ⌜ ((R : PerFile (List Row)) → R .delivery ≡ rowsIn Delivery (now (delivery .entry)) → r ≡ numberOn R day) ⌝ }
+{
+    match calendar::day_of(store::first_word(delivery, used, words::FIRST_DAY)) {
+        DayOf::Day(first) => first + day,
+        DayOf::NotADay => day,
+    }
+}
+
+// The period of a station's own zone on a day of validity, counted from the first day.
+fn period_on(
+    delivery: &[u64],
+    zones: &[u64],
+    stations: &[u64],
+    places: &[u32],
+    counts: StoreCounts,
+    station: u64,
+    day: u64,
+) -> RowOf
+    requires { ⌜ ZonesReady counts (now delivery) (now zones) (now stations) × (day < longest) ⌝ }
+    ensures { λ r. ⌜ PeriodFor (now (delivery .entry)) (now (zones .entry)) (now (stations .entry)) station day r ⌝ }
+{
+    let number = number_on(delivery, counts.delivery, day);
+    stop_times::period_by_number(
+        zones,
+        counts.timezone,
+        places,
+        stations,
+        counts.stations,
+        places,
+        station,
+        number,
+    )
+}
+
+// THE GAP
+
+// From an arrival to a departure, each on its day, where both are times.
+fn gap_of(arrival: TimeOf, arrival_day: u64, departure: TimeOf, departure_day: u64) -> i32
+    requires { ⌜
+        FewMinutes arrival × FewMinutes departure × («arrival_day» < longest) × («departure_day» < longest)
+        ⌝ }
+    ensures { λ r. ⌜ r ≡ gapBetween arrival «arrival_day» departure «departure_day» ⌝ }
+{
+    match arrival {
+        TimeOf::At(_, from) => match departure {
+            TimeOf::At(_, to) => calendar::gap(from, arrival_day, to, departure_day),
+            TimeOf::NoTime => 0,
+        },
+        TimeOf::NoTime => 0,
+    }
+}
+
+// From the arrival at one stop to the departure from another, by their rows and the periods of their zones.
+fn gap_between(
+    zones: &[u64],
+    timetbls: &[u64],
+    alight: RowOf,
+    alight_period: RowOf,
+    alight_day: u64,
+    board: RowOf,
+    board_period: RowOf,
+    board_day: u64,
+) -> i32
+    requires { ⌜
+        Timed (now zones) (now timetbls) alight «alight_period» «alight_day»
+        × Timed (now zones) (now timetbls) board «board_period» «board_day»
+        ⌝ }
+    ensures { λ r. ⌜
+        r
+        ≡ gapBetween
+        (timesBy (rowOr (rowWidth (Groups Timezone)) (now (zones .entry)) «alight_period») (rowOr (rowWidth Timetbls) (now (timetbls .entry)) alight)
+        .arrival)
+        «alight_day»
+        (timesBy (rowOr (rowWidth (Groups Timezone)) (now (zones .entry)) «board_period») (rowOr (rowWidth Timetbls) (now (timetbls .entry)) board)
+        .departure)
+        «board_day»
+        ⌝ }
+{
+    let there = stop_times::times_by(timetbls, alight, zones, alight_period);
+    let here = stop_times::times_by(timetbls, board, zones, board_period);
+    let arrival = there.arrival;
+    let departure = here.departure;
+    gap_of(arrival, alight_day, departure, board_day)
+}
+
+// THE FIRST NO
+
+// One service on one day.
+fn is_same(from: Call, to: Call) -> bool
+    ensures { λ r. ⌜ r ≡ isSame from to ⌝ }
+{
+    if from.service == to.service {
+        return from.day == to.day;
+    }
+    false
+}
+
+// The services run: the one changed from on the leg that ends at its stop, the other on the leg that begins at its stop.
+fn run_hurdle(
+    footnotes: &[u64],
+    timetbls: &[u64],
+    places: &[u32],
+    used: usize,
+    a: SideRows,
+    b: SideRows,
+    from: Call,
+    to: Call,
+) -> FirstNo
+    requires { ⌜
+        Stored (Groups Footnote) used (now footnotes)
+        × Inside (rowWidth Timetbls) (now timetbls) (a .part)
+        × Inside (rowWidth Timetbls) (now timetbls) (b .part)
+        ⌝ }
+    ensures { λ r. ⌜
+        ((R : PerFile (List Row))
+        → R .footnote ≡ rowsIn (Groups Footnote) (now (footnotes .entry))
+        → hurdleOf r ≡ runHurdle R (rowsFound (now (timetbls .entry)) a) (rowsFound (now (timetbls .entry)) b) from to)
+        ⌝ }
+{
+    let leg = leg_before(from.stop);
+    if !running::runs_on(timetbls, a.part, footnotes, used, places, leg, from.day) {
+        return FirstNo::Stops(Early::FromRests);
+    }
+    if !running::runs_on(timetbls, b.part, footnotes, used, places, to.stop, to.day) {
+        return FirstNo::Stops(Early::ToRests);
+    }
+    FirstNo::Clear
+}
+
+// They stop at one station, and somebody alights there and boards.
+fn stop_hurdle(timetbls: &[u64], a: SideRows, b: SideRows, from: Call, to: Call) -> FirstNo
+    requires { ⌜ SideFor (now timetbls) from a × SideFor (now timetbls) to b ⌝ }
+    ensures { λ r. ⌜
+        ((R : PerFile (List Row))
+        → hurdleOf r ≡ stopHurdle R (rowsFound (now (timetbls .entry)) a) (rowsFound (now (timetbls .entry)) b) from to)
+        ⌝ }
+{
+    if a.station != b.station {
+        return FirstNo::Stops(Early::StationsDiffer);
+    }
+    if !stop_times::may_alight(timetbls, a.part, from.stop, from.day) {
+        return FirstNo::Stops(Early::NobodyAlights);
+    }
+    if !stop_times::may_board(timetbls, b.part, to.stop, to.day) {
+        return FirstNo::Stops(Early::NobodyBoards);
+    }
+    FirstNo::Clear
+}
+
+// The first No of those that ask for the services' rows.
+fn later_hurdle(
+    footnotes: &[u64],
+    timetbls: &[u64],
+    places: &[u32],
+    used: usize,
+    a: SideRows,
+    b: SideRows,
+    from: Call,
+    to: Call,
+) -> FirstNo
+    requires { ⌜
+        Stored (Groups Footnote) used (now footnotes)
+        × SideFor (now timetbls) from a
+        × SideFor (now timetbls) to b
+        ⌝ }
+    ensures { λ r. ⌜
+        ((R : PerFile (List Row))
+        → R .footnote ≡ rowsIn (Groups Footnote) (now (footnotes .entry))
+        → hurdleOf r ≡ laterHurdle R (rowsFound (now (timetbls .entry)) a) (rowsFound (now (timetbls .entry)) b) from to)
+        ⌝ }
+{
+    match run_hurdle(footnotes, timetbls, places, used, a, b, from, to) {
+        FirstNo::Stops(early) => FirstNo::Stops(early),
+        FirstNo::Clear => stop_hurdle(timetbls, a, b, from, to),
+    }
+}
+
+// THE NEEDED TIME
+
+// The best row of XCHANGES at the station, for A on leg i - 1 and B on leg j, on A's day.
+fn best_for(
+    timetbls: &[u64],
+    xfootnotes: &[u64],
+    xchanges: &[u64],
+    places: &[u32],
+    counts: StoreCounts,
+    a: SideRows,
+    b: SideRows,
+    from: Call,
+    to: Call,
+) -> Best
+    requires { ⌜
+        Stored (Groups Xfootnote) (counts .xfootnote) (now xfootnotes)
+        × Stored (Groups Xchanges) (counts .xchanges) (now xchanges)
+        × Inside (rowWidth Timetbls) (now timetbls) (a .part)
+        × Inside (rowWidth Timetbls) (now timetbls) (b .part)
+        ⌝ }
+    ensures { λ r. ⌜
+        ((R : PerFile (List Row))
+        → R .xfootnote ≡ rowsIn (Groups Xfootnote) (now (xfootnotes .entry))
+        → R .xchanges ≡ rowsIn (Groups Xchanges) (now (xchanges .entry))
+        → r ≡ bestFor R (rowsFound (now (timetbls .entry)) a) (rowsFound (now (timetbls .entry)) b) (a .station) from to)
+        ⌝ }
+{
+    let vector_day = from.day;
+    let leg = leg_before(from.stop);
+    let riding = riding_on(timetbls, a.part, leg);
+    let next = riding_on(timetbls, b.part, to.stop);
+    exceptions::best_at(
+        xchanges,
+        counts.xchanges,
+        xfootnotes,
+        counts.xfootnote,
+        places,
+        a.station,
+        riding,
+        next,
+        vector_day,
+    )
+}
+
+// Where the two services have no row of CHANGES at the station.
+fn without_pair(
+    gap: i32,
+    stations: &[u64],
+    timetbls: &[u64],
+    xfootnotes: &[u64],
+    xchanges: &[u64],
+    places: &[u32],
+    counts: StoreCounts,
+    a: SideRows,
+    b: SideRows,
+    from: Call,
+    to: Call,
+) -> Change
+    requires { ⌜
+        Stored (Rows Stations) (counts .stations) (now stations)
+        × Stored (Groups Xfootnote) (counts .xfootnote) (now xfootnotes)
+        × Stored (Groups Xchanges) (counts .xchanges) (now xchanges)
+        × Inside (rowWidth Timetbls) (now timetbls) (a .part)
+        × Inside (rowWidth Timetbls) (now timetbls) (b .part)
+        ⌝ }
+    ensures { λ r. ⌜
+        ((R : PerFile (List Row))
+        → R .stations ≡ rowsIn (Rows Stations) (now (stations .entry))
+        → R .xfootnote ≡ rowsIn (Groups Xfootnote) (now (xfootnotes .entry))
+        → R .xchanges ≡ rowsIn (Groups Xchanges) (now (xchanges .entry))
+        → r
+        ≡ core gap NoPair (changeFlag (stationRow R (a .station)))
+        (bestFor R (rowsFound (now (timetbls .entry)) a) (rowsFound (now (timetbls .entry)) b) (a .station) from to)
+        (changeTime (stationRow R (a .station))))
+        ⌝ }
+{
+    let row = store::find_station(stations, counts.stations, places, a.station);
+    let flag = store::word_of(stations, store::STATION_WIDTH, row, words::CHANGE_FLAG);
+    if flag == 0 {
+        return verdicts::core(gap, Pair::NoPair, 0, Best::NoBest, 0);
+    }
+    let time = store::word_of(stations, store::STATION_WIDTH, row, words::CHANGE_TIME);
+    let best = best_for(
+        timetbls,
+        xfootnotes,
+        xchanges,
+        places,
+        counts,
+        a,
+        b,
+        from,
+        to,
+    );
+    verdicts::core(gap, Pair::NoPair, flag, best, time)
+}
+
+// The verdict on a gap, by the first that gives a needed time or forbids the change.
+fn by_needed(
+    gap: i32,
+    stations: &[u64],
+    timetbls: &[u64],
+    changes: &[u64],
+    xfootnotes: &[u64],
+    xchanges: &[u64],
+    places: &[u32],
+    counts: StoreCounts,
+    a: SideRows,
+    b: SideRows,
+    from: Call,
+    to: Call,
+) -> Change
+    requires { ⌜
+        Stored (Rows Stations) (counts .stations) (now stations)
+        × Stored (Groups Changes) (counts .changes) (now changes)
+        × Stored (Groups Xfootnote) (counts .xfootnote) (now xfootnotes)
+        × Stored (Groups Xchanges) (counts .xchanges) (now xchanges)
+        × Inside (rowWidth Timetbls) (now timetbls) (a .part)
+        × Inside (rowWidth Timetbls) (now timetbls) (b .part)
+        ⌝ }
+    ensures { λ r. ⌜
+        ((R : PerFile (List Row))
+        → R .stations ≡ rowsIn (Rows Stations) (now (stations .entry))
+        → R .changes ≡ rowsIn (Groups Changes) (now (changes .entry))
+        → R .xfootnote ≡ rowsIn (Groups Xfootnote) (now (xfootnotes .entry))
+        → R .xchanges ≡ rowsIn (Groups Xchanges) (now (xchanges .entry))
+        → r ≡ verdictOn R gap (rowsFound (now (timetbls .entry)) a) (rowsFound (now (timetbls .entry)) b) (a .station) from to)
+        ⌝ }
+{
+    let pair = exceptions::pair_at(
+        changes,
+        counts.changes,
+        places,
+        a.station,
+        from.service,
+        to.service,
+    );
+    match pair {
+        Pair::Possibility(p) => verdicts::core(gap, Pair::Possibility(p), 0, Best::NoBest, 0),
+        Pair::NoPair => without_pair(
+            gap,
+            stations,
+            timetbls,
+            xfootnotes,
+            xchanges,
+            places,
+            counts,
+            a,
+            b,
+            from,
+            to,
+        ),
+    }
+}
+
+// THE CORE
+
+// The gap by the periods of both stations, and the verdict on it.
+fn weighed(
+    zones: &[u64],
+    stations: &[u64],
+    timetbls: &[u64],
+    changes: &[u64],
+    xfootnotes: &[u64],
+    xchanges: &[u64],
+    places: &[u32],
+    counts: StoreCounts,
+    alight: RowOf,
+    board: RowOf,
+    a: SideRows,
+    b: SideRows,
+    from: Call,
+    to: Call,
+) -> Change
+    requires { ⌜
+        Timed (now zones) (now timetbls) (a .row) alight (from .day)
+        × Timed (now zones) (now timetbls) (b .row) board (to .day)
+        × Stored (Rows Stations) (counts .stations) (now stations)
+        × Stored (Groups Changes) (counts .changes) (now changes)
+        × Stored (Groups Xfootnote) (counts .xfootnote) (now xfootnotes)
+        × Stored (Groups Xchanges) (counts .xchanges) (now xchanges)
+        × Inside (rowWidth Timetbls) (now timetbls) (a .part)
+        × Inside (rowWidth Timetbls) (now timetbls) (b .part)
+        ⌝ }
+    ensures { λ r. ⌜
+        ((R : PerFile (List Row))
+        → R .stations ≡ rowsIn (Rows Stations) (now (stations .entry))
+        → R .changes ≡ rowsIn (Groups Changes) (now (changes .entry))
+        → R .xfootnote ≡ rowsIn (Groups Xfootnote) (now (xfootnotes .entry))
+        → R .xchanges ≡ rowsIn (Groups Xchanges) (now (xchanges .entry))
+        → r
+        ≡ verdictBy R (rowsFound (now (timetbls .entry)) a) (rowsFound (now (timetbls .entry)) b) (stopFound (now (timetbls .entry)) a)
+        (stopFound (now (timetbls .entry)) b) (rowOr (rowWidth (Groups Timezone)) (now (zones .entry)) alight)
+        (rowOr (rowWidth (Groups Timezone)) (now (zones .entry)) board) (a .station) from to)
+        ⌝ }
+{
+    let alight_row = a.row;
+    let board_row = b.row;
+    let gap = gap_between(
+        zones,
+        timetbls,
+        alight_row,
+        alight,
+        from.day,
+        board_row,
+        board,
+        to.day,
+    );
+    by_needed(
+        gap,
+        stations,
+        timetbls,
+        changes,
+        xfootnotes,
+        xchanges,
+        places,
+        counts,
+        a,
+        b,
+        from,
+        to,
+    )
+}
+
+// Where no No came before: 15 for either station, then the verdict.
+fn judged(
+    delivery: &[u64],
+    zones: &[u64],
+    stations: &[u64],
+    timetbls: &[u64],
+    changes: &[u64],
+    xfootnotes: &[u64],
+    xchanges: &[u64],
+    places: &[u32],
+    counts: StoreCounts,
+    a: SideRows,
+    b: SideRows,
+    from: Call,
+    to: Call,
+) -> Change
+    requires { ⌜
+        ZonesReady counts (now delivery) (now zones) (now stations)
+        × NeedReady counts (now changes) (now xfootnotes) (now xchanges)
+        × SideFor (now timetbls) from a
+        × SideFor (now timetbls) to b
+        × (from .day < longest)
+        × (to .day < longest)
+        ⌝ }
+    ensures { λ r. ⌜
+        ((R : PerFile (List Row))
+        → ZoneRows R (now (delivery .entry)) (now (zones .entry)) (now (stations .entry))
+        → NeedRows R (now (changes .entry)) (now (xfootnotes .entry)) (now (xchanges .entry))
+        → r
+        ≡ judgedOn R (rowsFound (now (timetbls .entry)) a) (rowsFound (now (timetbls .entry)) b) (stopFound (now (timetbls .entry)) a)
+        (stopFound (now (timetbls .entry)) b) (a .station) (b .station) from to)
+        ⌝ }
+{
+    let alight = period_on(
+        delivery,
+        zones,
+        stations,
+        places,
+        counts,
+        a.station,
+        from.day,
+    );
+    if !stop_times::is_there(zones, alight) {
+        return Change::ChangeRefused(Reason::NoPeriod);
+    }
+    let board = period_on(delivery, zones, stations, places, counts, b.station, to.day);
+    if !stop_times::is_there(zones, board) {
+        return Change::ChangeRefused(Reason::NoPeriod);
+    }
+    weighed(
+        zones,
+        stations,
+        timetbls,
+        changes,
+        xfootnotes,
+        xchanges,
+        places,
+        counts,
+        alight,
+        board,
+        a,
+        b,
+        from,
+        to,
+    )
+}
+
+// Where it is not one service on one day: the sides are found, then the other hurdles, then the verdict.
+fn later_change(
+    delivery: &[u64],
+    zones: &[u64],
+    stations: &[u64],
+    footnotes: &[u64],
+    timetbls: &[u64],
+    changes: &[u64],
+    xfootnotes: &[u64],
+    xchanges: &[u64],
+    service_places: &[u32],
+    places: &[u32],
+    counts: StoreCounts,
+    from: Call,
+    to: Call,
+) -> Change
+    requires { ⌜
+        Ready counts (now delivery) (now zones) (now stations) (now footnotes) (now timetbls) (now changes) (now xfootnotes) (now xchanges)
+        × (from .day < longest)
+        × (to .day < longest)
+        ⌝ }
+    ensures { λ r. ⌜
+        ((R : PerFile (List Row))
+        → RowsOf R (now (delivery .entry)) (now (zones .entry)) (now (stations .entry)) (now (footnotes .entry)) (now (timetbls .entry))
+        (now (changes .entry)) (now (xfootnotes .entry)) (now (xchanges .entry))
+        → r ≡ laterChange R from to)
+        ⌝ }
+{
+    let a = find_side(timetbls, counts.timetbls, service_places, from);
+    let b = find_side(timetbls, counts.timetbls, service_places, to);
+    match later_hurdle(footnotes, timetbls, places, counts.footnote, a, b, from, to) {
+        FirstNo::Stops(early) => Change::NoBefore(early),
+        FirstNo::Clear => judged(
+            delivery,
+            zones,
+            stations,
+            timetbls,
+            changes,
+            xfootnotes,
+            xchanges,
+            places,
+            counts,
+            a,
+            b,
+            from,
+            to,
+        ),
+    }
+}
+
+// The core of a change: a service, a stop and a day for either side, on tables that were found sound.
+pub fn core_change(
+    delivery: &[u64],
+    zones: &[u64],
+    stations: &[u64],
+    footnotes: &[u64],
+    timetbls: &[u64],
+    changes: &[u64],
+    xfootnotes: &[u64],
+    xchanges: &[u64],
+    service_places: &[u32],
+    places: &[u32],
+    counts: StoreCounts,
+    from: Call,
+    to: Call,
+) -> Change
+    requires { ⌜
+        Ready counts (now delivery) (now zones) (now stations) (now footnotes) (now timetbls) (now changes) (now xfootnotes) (now xchanges)
+        × (from .day < longest)
+        × (to .day < longest)
+        ⌝ }
+    ensures { λ r. ⌜
+        ((R : PerFile (List Row))
+        → RowsOf R (now (delivery .entry)) (now (zones .entry)) (now (stations .entry)) (now (footnotes .entry)) (now (timetbls .entry))
+        (now (changes .entry)) (now (xfootnotes .entry)) (now (xchanges .entry))
+        → r ≡ coreChange R from to)
+        ⌝ }
+{
+    if is_same(from, to) {
+        return Change::NoBefore(Early::SameService);
+    }
+    later_change(
+        delivery,
+        zones,
+        stations,
+        footnotes,
+        timetbls,
+        changes,
+        xfootnotes,
+        xchanges,
+        service_places,
+        places,
+        counts,
+        from,
+        to,
+    )
+}
+
+// THE PRECHECK
+
+// The stop is one to change from, of so many: 2 to n.
+fn may_end(stop: u64, stops: u64) -> bool
+    ensures { λ r. ⌜ r ≡ (leb 2 stop && leb stop stops) ⌝ }
+{
+    if 2 <= stop {
+        return stop <= stops;
+    }
+    false
+}
+
+// 12, 13, 14 for the service changed from.
+fn asked_from(
+    delivery: &[u64],
+    timetbls: &[u64],
+    service_places: &[u32],
+    counts: StoreCounts,
+    v: Visit,
+) -> Test
+    requires { ⌜ Stored Delivery (counts .delivery) (now delivery) × Stored Timetbls (counts .timetbls) (now timetbls) ⌝ }
+    ensures { λ r. ⌜
+        ((R : PerFile (List Row))
+        → R .delivery ≡ rowsIn Delivery (now (delivery .entry))
+        → R .timetbls ≡ rowsIn Timetbls (now (timetbls .entry))
+        → r ≡ askedFrom R (sideOf v))
+        ⌝ }
+{
+    let part = store::find_group(
+        File::Timetbls,
+        timetbls,
+        counts.timetbls,
+        service_places,
+        v.service,
+    );
+    let right = may_end(v.stop, store::count_stops(timetbls, part));
+    running::asked(delivery, counts.delivery, part, right, v.date)
+}
+
+// And for the one changed to, whose stop is one that a leg begins at: 1 to n - 1.
+fn asked_to(
+    delivery: &[u64],
+    timetbls: &[u64],
+    service_places: &[u32],
+    counts: StoreCounts,
+    v: Visit,
+) -> Test
+    requires { ⌜ Stored Delivery (counts .delivery) (now delivery) × Stored Timetbls (counts .timetbls) (now timetbls) ⌝ }
+    ensures { λ r. ⌜
+        ((R : PerFile (List Row))
+        → R .delivery ≡ rowsIn Delivery (now (delivery .entry))
+        → R .timetbls ≡ rowsIn Timetbls (now (timetbls .entry))
+        → r ≡ askedTo R (sideOf v))
+        ⌝ }
+{
+    let part = store::find_group(
+        File::Timetbls,
+        timetbls,
+        counts.timetbls,
+        service_places,
+        v.service,
+    );
+    let right = running::is_leg(timetbls, part, v.stop);
+    running::asked(delivery, counts.delivery, part, right, v.date)
+}
+
+// 12, 13, 14 for A, then for B.
+pub fn precheck(
+    delivery: &[u64],
+    timetbls: &[u64],
+    service_places: &[u32],
+    counts: StoreCounts,
+    from: Visit,
+    to: Visit,
+) -> Test
+    requires { ⌜ Stored Delivery (counts .delivery) (now delivery) × Stored Timetbls (counts .timetbls) (now timetbls) ⌝ }
+    ensures { λ r. ⌜
+        ((R : PerFile (List Row))
+        → R .delivery ≡ rowsIn Delivery (now (delivery .entry))
+        → R .timetbls ≡ rowsIn Timetbls (now (timetbls .entry))
+        → r ≡ precheckOf R (sideOf from) (sideOf to))
+        ⌝ }
+{
+    match asked_from(delivery, timetbls, service_places, counts, from) {
+        Test::Fails(reason) => Test::Fails(reason),
+        Test::Passes => asked_to(delivery, timetbls, service_places, counts, to),
+    }
+}
+
+// A side with its date as the day counted from the first day.
+fn call_of(delivery: &[u64], used: usize, v: Visit) -> Call
+    requires { ⌜ Stored Delivery used (now delivery) ⌝ }
+    ensures { λ r. ⌜ ((R : PerFile (List Row)) → R .delivery ≡ rowsIn Delivery (now (delivery .entry)) → r ≡ callOf R (sideOf v)) ⌝ }
+{
+    Call {
+        service: v.service,
+        stop: v.stop,
+        day: running::day_on(delivery, used, v.date),
+    }
+}
+
+// A change, on tables that were found sound: the precheck, then the core.
+pub fn change_in(
+    delivery: &[u64],
+    zones: &[u64],
+    stations: &[u64],
+    footnotes: &[u64],
+    timetbls: &[u64],
+    changes: &[u64],
+    xfootnotes: &[u64],
+    xchanges: &[u64],
+    service_places: &[u32],
+    places: &[u32],
+    counts: StoreCounts,
+    from: Visit,
+    to: Visit,
+) -> Change
+    requires { ⌜ Ready counts (now delivery) (now zones) (now stations) (now footnotes) (now timetbls) (now changes) (now xfootnotes) (now xchanges) ⌝ }
+    ensures { λ r. ⌜
+        ((R : PerFile (List Row))
+        → RowsOf R (now (delivery .entry)) (now (zones .entry)) (now (stations .entry)) (now (footnotes .entry)) (now (timetbls .entry))
+        (now (changes .entry)) (now (xfootnotes .entry)) (now (xchanges .entry))
+        → r ≡ changeAfter (precheckOf R (sideOf from) (sideOf to)) (coreChange R (callOf R (sideOf from)) (callOf R (sideOf to))))
+        ⌝ }
+{
+    match precheck(delivery, timetbls, service_places, counts, from, to) {
+        Test::Fails(reason) => Change::ChangeRefused(reason),
+        Test::Passes => {
+            let a = call_of(delivery, counts.delivery, from);
+            let b = call_of(delivery, counts.delivery, to);
+            core_change(
+                delivery,
+                zones,
+                stations,
+                footnotes,
+                timetbls,
+                changes,
+                xfootnotes,
+                xchanges,
+                service_places,
+                places,
+                counts,
+                a,
+                b,
+            )
+        }
+    }
+}

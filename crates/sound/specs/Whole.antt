@@ -1,0 +1,46 @@
+-- The rows in use of eleven tables, counted; and soundness as it is asked: which tables are there, their frames, their rows behind the first lines'.
+use Prim.Native.Nat.{ℕ}
+use mathlib.Core.Path.{_≡_}
+use mathlib.Core.List.{List}
+use mathlib.Core.Bool.{Bool, true, cond}
+use lib.ListN.{length}
+use Rattle.iff.specs.Lists.{all}
+use Rattle.iff.specs.Files.{PerFile, of, inOrder, needed}
+use Rattle.iff.specs.Tables.{Row, rowsIn}
+use Rattle.iff.specs.declared.RowFile.the-variants.{Company, Country, Trnsmode, Stations}
+use Rattle.iff.specs.declared.GroupFile.the-variants.{Timezone, Footnote, Changes, Xfootnote, Xchanges}
+use Rattle.iff.specs.declared.File.{File}
+use Rattle.iff.specs.declared.File.the-variants.{Delivery, Rows, Groups, Timetbls}
+use Rattle.iff.specs.declared.Form.{Form}
+use Rattle.iff_rules.specs.Rows.{Context}
+use Rattle.iff_desk.specs.Sound.{heldIn}
+use Rattle.sound_frames.specs.Frames.{framed}
+use Rattle.sound_behind.specs.Behind.{behind}
+use Rattle.sound.specs.declared.UsedRows.{UsedRows}
+
+-- each count is that of its table
+pub record Counted (T : PerFile (List ℕ)) (u : UsedRows) : Type 0 where
+  pub delivery : u .delivery ≡ length (rowsIn Delivery (T .delivery))
+  pub company : u .company ≡ length (rowsIn (Rows Company) (T .company))
+  pub country : u .country ≡ length (rowsIn (Rows Country) (T .country))
+  pub trnsmode : u .trnsmode ≡ length (rowsIn (Rows Trnsmode) (T .trnsmode))
+  pub timezone : u .timezone ≡ length (rowsIn (Groups Timezone) (T .timezone))
+  pub stations : u .stations ≡ length (rowsIn (Rows Stations) (T .stations))
+  pub footnote : u .footnote ≡ length (rowsIn (Groups Footnote) (T .footnote))
+  pub timetbls : u .timetbls ≡ length (rowsIn Timetbls (T .timetbls))
+  pub changes : u .changes ≡ length (rowsIn (Groups Changes) (T .changes))
+  pub xfootnote : u .xfootnote ≡ length (rowsIn (Groups Xfootnote) (T .xfootnote))
+  pub xchanges : u .xchanges ≡ length (rowsIn (Groups Xchanges) (T .xchanges))
+
+-- a table that is needed has rows
+abbrev pub there : PerFile (List Row) → File → Bool
+there R f = cond (needed (heldIn R) f) (heldIn R f) true
+
+unfoldable pub allThere : PerFile (List Row) → Bool
+allThere R = all (there R) inOrder
+
+unfoldable pub allFramed : Form → Row → PerFile (List ℕ) → Bool
+allFramed form delivery T = all (λ f. framed form delivery f (of T f)) inOrder
+
+unfoldable pub allBehind : Context → PerFile (List ℕ) → Bool
+allBehind c T = all (λ f. behind c f (rowsIn f (of T f))) inOrder

@@ -1,0 +1,2 @@
+pub mod RowFacts
+pub mod SoundFacts

@@ -1,0 +1,84 @@
+-- What the soundness of eleven tables gives the questions. Assumes nothing.
+use Prim.Native.Nat.{ℕ, _-_, _≤_, _<_}
+use mathlib.Core.Path.{_≡_, refl}
+use mathlib.Core.List.{List}
+use mathlib.Core.Bool.{Bool, true}
+use native.Mathlib.Omega.{arith}
+use lib.ListN.{getD, drop}
+use Rattle.iff.specs.Lists.{all}
+use Rattle.iff.specs.Days.{span, longest}
+use Rattle.iff.specs.Files.{PerFile, of, inOrder}
+use Rattle.iff.specs.Tables.{rowsIn, keysOf}
+use Rattle.iff.specs.Words.{firstDay, lastDay, hours, changeTime, exceptionTime}
+use Rattle.iff.specs.declared.RowFile.the-variants.{Company, Country, Trnsmode, Stations}
+use Rattle.iff.specs.declared.GroupFile.the-variants.{Timezone, Footnote, Changes, Xfootnote, Xchanges}
+use Rattle.iff.specs.declared.File.{File}
+use Rattle.iff.specs.declared.File.the-variants.{Delivery, Rows, Groups, Timetbls}
+use Rattle.iff_rules.specs.Rows.{contextOf, firstOf}
+use Rattle.iff_laws.specs.TruthLaws.{both, says-all}
+use Rattle.iff_desk.specs.Sound.{rowsOfTables, soundRows, soundTable, sound, distinct}
+use Rattle.iff_desk.specs.Store.{groupOf, stationRow, periodOf}
+use Rattle.tables.proofs.Each.{Each}
+use Rattle.sound_facts.proofs.RowFacts.{one-of, keys-once, days-few, station-times, period-few, exceptions-few}
+
+-- the files, by their place in the order of reading
+module _ (p : File → Bool) (e : all p inOrder ≡ true) where
+  at-place : (i : ℕ) → i < 11 → p (getD inOrder i Delivery) ≡ true
+  at-place i h = says-all Delivery p inOrder .0 e i h
+
+  each-file : (f : File) → p f ≡ true
+  each-file Delivery = at-place 0 (omega arith)
+  each-file (Rows Company) = at-place 1 (omega arith)
+  each-file (Rows Country) = at-place 2 (omega arith)
+  each-file (Rows Trnsmode) = at-place 3 (omega arith)
+  each-file (Groups Timezone) = at-place 4 (omega arith)
+  each-file (Rows Stations) = at-place 5 (omega arith)
+  each-file (Groups Footnote) = at-place 6 (omega arith)
+  each-file Timetbls = at-place 7 (omega arith)
+  each-file (Groups Changes) = at-place 8 (omega arith)
+  each-file (Groups Xfootnote) = at-place 9 (omega arith)
+  each-file (Groups Xchanges) = at-place 10 (omega arith)
+
+-- the rows of a file's table
+rows-of : (T : PerFile (List ℕ)) (f : File) → of (rowsOfTables T) f ≡ rowsIn f (of T f)
+rows-of T Delivery = refl
+rows-of T (Rows Company) = refl
+rows-of T (Rows Country) = refl
+rows-of T (Rows Trnsmode) = refl
+rows-of T (Rows Stations) = refl
+rows-of T (Groups Timezone) = refl
+rows-of T (Groups Footnote) = refl
+rows-of T (Groups Changes) = refl
+rows-of T (Groups Xfootnote) = refl
+rows-of T (Groups Xchanges) = refl
+rows-of T Timetbls = refl
+
+module _ (T : PerFile (List ℕ)) (s : sound T ≡ true) where
+  table-sound : (f : File) → soundTable (contextOf (rowsOfTables T)) (rowsOfTables T) f (of T f) ≡ true
+  unfolding sound
+  table-sound f = each-file (λ f. soundTable (contextOf (rowsOfTables T)) (rowsOfTables T) f (of T f)) (both _ _ s .0) f
+
+  rows-sound : (f : File) → soundRows (contextOf (rowsOfTables T)) (firstOf (rowsOfTables T .delivery)) f (rowsIn f (of T f)) ≡ true
+  unfolding soundTable
+  rows-sound f = rw (← (rows-of T f)) (one-of _ (table-sound f) 1)
+
+  -- "Unique": no two rows of a file name one key
+  pub once : (f : File) → distinct (keysOf f (rowsIn f (of T f))) ≡ true
+  once f = keys-once _ _ f _ (rows-sound f)
+
+  -- "A delivery spans at most 800 days."
+  pub few-days : span (firstDay (firstOf (rowsIn Delivery (T .delivery)))) (lastDay (firstOf (rowsIn Delivery (T .delivery)))) ≤ longest
+  few-days = days-few _ _ Delivery _ (rows-sound Delivery)
+
+  -- hours of a zone's period, 2-3
+  pub few-hours : (zone day : ℕ) → hours (periodOf (rowsIn (Groups Timezone) (T .timezone)) zone day) < 100
+  few-hours zone day = period-few _ _ _ (rows-sound (Groups Timezone)) zone day
+
+  -- a station's change time, 11-12
+  pub few-change-time : (key : ℕ) → changeTime (stationRow (rowsOfTables T) key) < 100
+  unfolding stationRow
+  few-change-time key = station-times _ _ _ (rows-sound (Rows Stations)) key
+
+  -- an exception's time, 20-22
+  pub few-exception-time : (station : ℕ) → Each (λ r. exceptionTime r < 1000) (drop 1 (groupOf station (rowsIn (Groups Xchanges) (T .xchanges))))
+  few-exception-time station = exceptions-few _ _ _ (rows-sound (Groups Xchanges)) station

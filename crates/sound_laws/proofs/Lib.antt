@@ -1,0 +1,10 @@
+pub mod WordLaws
+pub mod PassLaws
+pub mod RowLaws
+pub mod BlockLaws
+pub mod PlainLaws
+pub mod GroupLaws
+pub mod TimetblsLaws
+pub mod FileLaws
+pub mod TextLaws
+pub mod SoundLaws

@@ -1,0 +1,5 @@
+-- laws for callers
+pub mod OnceLaws
+pub mod FirstLaws
+pub mod KeptLaws
+pub mod PartLaws
