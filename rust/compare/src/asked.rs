@@ -6,7 +6,7 @@ use std::ops::Range;
 
 use compare::answers::{outcome, soundness, Answer, Answered, Examined, Lent};
 use compare::{by_second, junk, lengths_of, with_spare_words, Lengths, Tables};
-use deliveries::tables::{add_one, damage_tables, delay, derive, other_words, rows, Limited, RowEdit};
+use deliveries::tables::{add_one, cut, damage_tables, delay, derive, other_words, rows, Limited, RowEdit};
 use deliveries::tally::{OF_QUESTIONS, OF_SOUNDNESS};
 use deliveries::{
     damage_file, large, limit, lines_in, mixed, name_in, of_each_sort, place, question, question_on_tables,
@@ -30,8 +30,6 @@ pub const FULL: Depth = Depth { questions: 24, damaged: 3 };
 /// For the emulator, which is handed the tables anew with every question.
 pub const SAMPLE: Depth = Depth { questions: 3, damaged: 1 };
 
-/// Other values for each word.
-const VALUES: usize = 6;
 /// Services of the larger deliveries, and questions of each.
 const LARGE: [(usize, usize); 2] = [(300, 200), (20_000, 10)];
 
@@ -257,7 +255,7 @@ impl<'c> Desk<'c> {
 fn every_damage(sound: &Tables) -> impl Iterator<Item = (String, Tables)> + '_ {
     let words = (0..FILES).flat_map(|file| (0..sound[file].len()).map(move |at| (file, at)));
     let changed = words.flat_map(move |(file, at)| {
-        other_words(sound[file][at], at, VALUES).map(move |value| {
+        other_words(sound, file, at).into_iter().map(move |value| {
             let mut tables = sound.clone();
             tables[file][at] = value;
             (format!("{}-word-{at}-{value}", NAMES[file]), tables)
@@ -271,5 +269,23 @@ fn every_damage(sound: &Tables) -> impl Iterator<Item = (String, Tables)> + '_ {
             (format!("{}-{edit:?}-{at}", NAMES[file]), tables)
         })
     });
-    changed.chain(edited)
+    changed.chain(edited).chain(every_absence(sound))
+}
+
+/// The tables with files absent or with their first line alone: each file, and
+/// the last three in every way together.
+fn every_absence(sound: &Tables) -> impl Iterator<Item = (String, Tables)> + '_ {
+    let each = (0..FILES).flat_map(|file| [0, 1].map(|rows| vec![(file, rows)]));
+    let together = (0..27).map(|ways| {
+        let last_three = [place::CHANGES, place::XFOOTNOTE, place::XCHANGES];
+        let ways = [ways / 9, ways / 3 % 3, ways % 3];
+        // In the third way the file is as it was.
+        last_three.into_iter().zip(ways).filter(|(_, rows)| *rows < 2).collect()
+    });
+    each.chain(together).map(|cuts: Vec<(usize, usize)>| {
+        let mut tables = sound.clone();
+        cuts.iter().for_each(|&(file, rows)| cut(&mut tables, file, rows));
+        let names: Vec<String> = cuts.iter().map(|(file, rows)| format!("{}-{rows}", NAMES[*file])).collect();
+        (format!("cut-{}", names.join("-")), tables)
+    })
 }

@@ -3,6 +3,7 @@
 
 use crate::calendar;
 use crate::damage::WEIGHTS;
+use crate::fields::{self, Class, Field};
 use crate::place::*;
 use crate::rng::Rng;
 use crate::FILES;
@@ -24,50 +25,14 @@ const STOPS: usize = 3;
 const LINE: usize = 6;
 
 const GROUP: u64 = b'#' as u64;
+/// Bytes on both sides of what is allowed.
+const BESIDE_ALLOWED: [u8; 9] = [0x00, 0x1f, b' ', 0x7e, 0x7f, 0x80, 0x9f, 0xa0, 0xff];
+/// `*` and two blanks, packed.
+const ANY_COMPANY: u64 = 0x2a_20_20;
 
 fn is_stop(row: &[u64]) -> bool {
     b">.+<".iter().any(|&letter| row[0] == u64::from(letter))
 }
-
-/// Words at the borders of what some field may hold, and those with a meaning.
-const TELLING_WORDS: &[u64] = &[
-    0,
-    1,
-    2,
-    3,
-    9,
-    10,
-    GROUP,
-    b'@' as u64,
-    99,
-    100,
-    998,
-    999,
-    1_000,
-    2_359,
-    2_360,
-    2_400,
-    9_959,
-    9_960,
-    9_999,
-    10_000,
-    99_999,
-    100_000,
-    1_011_600,
-    29_021_900,
-    29_022_000,
-    31_121_599,
-    31_129_999,
-    99_999_999,
-    100_000_000,
-    0x2a2020,
-    0x202020,
-    0x2a202020,
-    0x20202020,
-    0x20202020202020,
-    0x2020202020207f,
-    u64::MAX,
-];
 
 /// The rows of a table in use: those before the first whose first word is zero.
 pub fn rows(tables: &Tables, file: usize) -> Vec<Vec<u64>> {
@@ -111,9 +76,10 @@ pub fn damage_tables(rng: &mut Rng, tables: &mut Tables) {
     let file = present(rng, tables);
     let count = rows(tables, file).len();
     match rng.below(20) {
-        0..=9 if count > 0 => change_word(rng, tables, file),
-        10..=14 if count > 0 => rng.pick(&RowEdit::ALL).put_into(tables, file, rng.below(count)),
-        15 if count > 0 => move_row(rng, tables, file),
+        0..=8 if count > 0 => change_word(rng, tables, file),
+        9..=13 if count > 0 => rng.pick(&RowEdit::ALL).put_into(tables, file, rng.below(count)),
+        14 if count > 0 => move_row(rng, tables, file),
+        15 => move_span(rng, tables),
         16 => change_every_first_row(rng, tables),
         17 => change_code_everywhere(rng, tables),
         18 => change_length(rng, &mut tables[file]),
@@ -144,30 +110,109 @@ fn change_word(rng: &mut Rng, tables: &mut Tables, file: usize) {
     let place = rng.below(WIDTHS[file]);
     rows[at][place] = match rng.below(4) {
         0 => rows[like][place],
-        _ => other_word(rng, rows[at][place]),
+        1 => other_word(rng, rows[at][place]),
+        _ => *rng.pick(&border_words(file, at, &rows[at], place)),
     };
     put_rows(tables, file, &rows);
 }
 
 fn other_word(rng: &mut Rng, word: u64) -> u64 {
-    match rng.below(9) {
+    match rng.below(7) {
         0 => word ^ 1,
         1 => word.wrapping_add(1),
         2 => word.wrapping_sub(1),
         3 => word ^ 1 << rng.below(64),
         // What is left of it in half a word is as it was.
         4 => word.wrapping_add(1 << 32),
-        5 => rng.word() >> rng.below(64),
-        6 => with_other_byte(rng, word),
-        _ => *rng.pick(TELLING_WORDS),
+        5 => with_other_byte(rng, word),
+        _ => rng.word() >> rng.below(64),
     }
+}
+
+/// Other values for a word of a table: its neighbours, what is the same in half
+/// a word, and where it holds a field those at the field's borders.
+pub fn other_words(tables: &Tables, file: usize, place: usize) -> Vec<u64> {
+    let word = tables[file][place];
+    let near = [word ^ 1, word.wrapping_add(1), word.wrapping_sub(1), word.wrapping_add(1 << 32)];
+    let (at, place) = (place / WIDTHS[file], place % WIDTHS[file]);
+    let row = rows(tables, file).into_iter().nth(at);
+    let borders = row.map_or(vec![1], |row| border_words(file, at, &row, place));
+    let mut others: Vec<u64> = near.into_iter().chain(borders).filter(|&other| other != word).collect();
+    others.sort_unstable();
+    others.dedup();
+    others
+}
+
+/// Words at the borders of what a word of a row may be.
+fn border_words(file: usize, at: usize, row: &[u64], place: usize) -> Vec<u64> {
+    if place == 0 {
+        return b"\x00\x01\x02@#%-&*>.+;<?01".iter().map(|&letter| u64::from(letter)).collect();
+    }
+    let Some(field) = field_of(file, at, row, place) else {
+        return vec![0, 1, 2, 3, 1 << 63, u64::MAX];
+    };
+    match field.class {
+        Class::Day => vec![
+            0,
+            1_011_600,
+            29_021_900,
+            29_022_000,
+            31_121_599,
+            31_129_999,
+            1_132_015,
+            1_002_015,
+            31_042_015,
+            32_012_015,
+            12_015,
+            100_000_000,
+            row[place].wrapping_add(1_000_000),
+            row[place].wrapping_sub(1_000_000),
+        ],
+        Class::Time => vec![0, 59, 60, 2_359, 2_360, 2_400, 9_959, 9_960, 9_999, 10_000],
+        Class::Stop => (0..=7).chain([998, 999, 1_000]).collect(),
+        Class::Number => {
+            let most = 10u64.pow(field.width() as u32) - 1;
+            vec![0, 1, 2, 3, 9, 99, 999, most, most + 1, ANY_COMPANY]
+        }
+        Class::Code => border_codes(row[place], field.width()),
+        Class::Text => unreachable!("texts are not kept"),
+    }
+}
+
+/// Blanks, a star and blanks, a byte too many, and a byte on either side of what
+/// is allowed in the first and the last place.
+fn border_codes(code: u64, width: usize) -> Vec<u64> {
+    let (last, first) = (size_of::<u64>() - 1, size_of::<u64>() - width);
+    let with = |code: u64, place: usize, byte: u8| {
+        let mut bytes = code.to_be_bytes();
+        bytes[place] = byte;
+        u64::from_be_bytes(bytes)
+    };
+    let blanks = (first..=last).fold(0, |blanks, place| with(blanks, place, b' '));
+    let sides =
+        [first, last].into_iter().flat_map(|place| BESIDE_ALLOWED.map(|byte| with(code, place, byte)));
+    sides.chain([0, blanks, with(blanks, first, b'*'), with(code, first - 1, b' ')]).collect()
+}
+
+/// The field that a word of a row holds; texts are not kept.
+fn field_of(file: usize, at: usize, row: &[u64], place: usize) -> Option<Field> {
+    let fields = match at {
+        0 => fields::FIRST_LINE,
+        _ => {
+            let is_meant = |record: &&fields::Record| {
+                record.file == file && record.letter.is_none_or(|letter| u64::from(letter) == row[0])
+            };
+            fields::RECORDS.iter().find(is_meant)?.fields
+        }
+    };
+    fields.iter().filter(|field| field.class != Class::Text).nth(place.checked_sub(1)?).copied()
 }
 
 /// A code with a byte in it at the border of what is allowed.
 fn with_other_byte(rng: &mut Rng, code: u64) -> u64 {
     let mut bytes = code.to_be_bytes();
     let first = bytes.iter().position(|&byte| byte != 0).unwrap_or(bytes.len() - 1);
-    bytes[first + rng.below(bytes.len() - first)] = *rng.pick(b"\x00\x1f *\x7e\x7f\x80\x9f\xa0\xff");
+    bytes[first + rng.below(bytes.len() - first)] = *rng.pick(&BESIDE_ALLOWED);
     u64::from_be_bytes(bytes)
 }
 
@@ -184,20 +229,39 @@ fn change_code_everywhere(rng: &mut Rng, tables: &mut Tables) {
     tables.iter_mut().flatten().filter(|word| **word == code).for_each(|word| *word = other);
 }
 
-/// Other values for a word: its neighbours, what is the same in half a word,
-/// and some telling words, at each place others.
-pub fn other_words(word: u64, place: usize, count: usize) -> impl Iterator<Item = u64> {
-    let near = [word ^ 1, word.wrapping_add(1), word.wrapping_sub(1), word.wrapping_add(1 << 32)];
-    let telling = TELLING_WORDS.iter().copied().cycle().skip(place * 5 % TELLING_WORDS.len());
-    let others = telling.filter(move |other| *other != word && !near.contains(other));
-    near.into_iter().chain(others).take(count)
-}
-
 fn move_row(rng: &mut Rng, tables: &mut Tables, file: usize) {
     let mut rows = rows(tables, file);
     let moved = rows.remove(rng.below(rows.len()));
     rows.insert(rng.below(rows.len() + 1), moved);
     put_rows(tables, file, &rows);
+}
+
+/// Has a record with first and last begin and end a stop earlier or later, so
+/// that a leg is held twice and another by none; or gives its block a second
+/// such record, which may go from a stop to itself and then holds no leg.
+fn move_span(rng: &mut Rng, tables: &mut Tables) {
+    let mut rows = rows(tables, TIMETBLS);
+    let has_span = |row: &Vec<u64>| b"%-&*".iter().any(|&letter| row[0] == u64::from(letter));
+    let spans: Vec<usize> = (0..rows.len()).filter(|&at| has_span(&rows[at])).collect();
+    if spans.is_empty() {
+        return;
+    }
+    let at = *rng.pick(&spans);
+    let first = if rows[at][0] == u64::from(b'%') { 3 } else { 2 };
+    let span = first..first + 2;
+    match rng.below(4) {
+        0 => rows[at][span].iter_mut().for_each(|stop| *stop = stop.wrapping_sub(1)),
+        1 => rows[at][span].iter_mut().for_each(|stop| *stop = stop.wrapping_add(1)),
+        2 => {
+            rows.insert(at, rows[at].clone());
+            rows[at][span].fill(1 + rng.below(4) as u64);
+        }
+        _ => {
+            rows.insert(at, rows[at].clone());
+            rows[at][span].fill_with(|| 1 + rng.below(4) as u64);
+        }
+    }
+    put_rows(tables, TIMETBLS, &rows);
 }
 
 /// The same word in the first row of every table that has one, so that these
@@ -227,6 +291,13 @@ fn change_any_place(rng: &mut Rng, table: &mut [u64]) {
     }
     let place = rng.below(table.len());
     table[place] = other_word(rng, table[place]);
+}
+
+/// Makes a table as if its file were absent, or as if it had its first line
+/// alone.
+pub fn cut(tables: &mut Tables, file: usize, rows_left: usize) {
+    let end = (rows_left * WIDTHS[file]).min(tables[file].len());
+    tables[file][end..].fill(0);
 }
 
 /// What document 01 has a limit for, in tables.
