@@ -1,6 +1,7 @@
 //! One delivery, loaded by both programs in turn; then soundness of its tables
 //! and changes, asked of the proved crates.
 
+use std::array;
 use std::fmt;
 use std::thread::available_parallelism;
 use std::time::{Duration, Instant};
@@ -14,11 +15,12 @@ pub const HEADING: &str = "\
 | services | keys | MB | lines | proved s | MB/s | second s | MB/s | proved / second | sound s | sound / second | change s | change less sound ms |
 |---|---|---|---|---|---|---|---|---|---|---|---|---|";
 
-/// The best of so many rounds is taken; in a round each program loads once, or
-/// tables are tested once and every change is asked once.
-const ROUNDS: usize = 5;
+/// The best of so many rounds is taken. In a round each program loads once, the
+/// tables are tested once and every change is asked once: so a processor that is
+/// now faster and now slower serves all alike.
+const ROUNDS: usize = 10;
 /// No further round is begun after this time.
-const ENOUGH: Duration = Duration::from_secs(5);
+const ENOUGH: Duration = Duration::from_secs(15);
 /// Changes asked, of which the mean is taken.
 const CHANGES: usize = 5;
 
@@ -66,15 +68,15 @@ pub fn conditions() -> String {
 /// Measures, and answers a row of the table.
 pub fn row(plan: Plan) -> String {
     let (world, case) = large(1, plan.services, plan.order == Order::Rising);
-    let (proved, second, tables) = best_loads(&case);
-    let (soundness, change) = best_questions(&world, &case, &tables);
+    let Times { proved, second, soundness, changes } = best(&world, &case);
     let megabytes = case.files.iter().map(Vec::len).sum::<usize>() as f64 / 1e6;
     let lines: usize = case.files.iter().map(|file| second::count_lines(file)).sum();
     let figures =
         |time: Duration| format!("{:.3} | {:.1}", time.as_secs_f64(), megabytes / time.as_secs_f64());
     let ratio = |time: Duration| time.as_secs_f64() / second.as_secs_f64();
+    let change = changes.iter().sum::<Duration>().as_secs_f64() / changes.len() as f64;
     format!(
-        "| {} | {} | {megabytes:.1} | {lines} | {} | {} | {:.1} | {:.3} | {:.2} | {:.3} | {:.2} |",
+        "| {} | {} | {megabytes:.1} | {lines} | {} | {} | {:.1} | {:.3} | {:.2} | {change:.3} | {:.2} |",
         plan.services,
         plan.order,
         figures(proved),
@@ -82,59 +84,61 @@ pub fn row(plan: Plan) -> String {
         ratio(proved),
         soundness.as_secs_f64(),
         ratio(soundness),
-        change.as_secs_f64(),
-        (change.as_secs_f64() - soundness.as_secs_f64()) * 1e3,
+        (change - soundness.as_secs_f64()) * 1e3,
     )
 }
 
-/// The best times of both programs' loads, and the tables. They must agree.
-fn best_loads(case: &Case) -> (Duration, Duration, Tables) {
-    let lengths = lengths_of(&case.rooms);
-    let mut rng = Rng::new(1);
-    let mut times = [Duration::MAX; 2];
-    let mut loaded = Tables::default();
-    for_some_rounds(|| {
-        let tables = junk(&mut rng, &lengths);
-        let (proved_time, proved) = timed(|| by_proved(case.texts(), tables));
-        let (second_time, second) = timed(|| by_second(case.texts(), &lengths));
-        assert!(proved == second, "The two programs differ.");
-        times = [times[0].min(proved_time), times[1].min(second_time)];
-        loaded = proved.tables;
-    });
-    let [proved, second] = times;
-    (proved, second, loaded)
+/// The best times: of the two loads, of soundness, and of each change.
+struct Times {
+    proved: Duration,
+    second: Duration,
+    soundness: Duration,
+    changes: [Duration; CHANGES],
 }
 
-/// The best times of soundness and, as a mean, of a change.
-fn best_questions(world: &World, case: &Case, tables: &Tables) -> (Duration, Duration) {
-    let lent = Lent::new(tables, case.texts());
-    let changes = far_changes(world, case, lent);
-    let mut soundness = Duration::MAX;
-    let mut times = vec![Duration::MAX; changes.len()];
-    for_some_rounds(|| {
-        let (time, sound) = timed(|| proved::is_sound(tables.each_ref().map(Vec::as_slice)));
-        assert!(sound, "Loaded tables are not sound.");
-        soundness = soundness.min(time);
-        for ((question, expected), best) in changes.iter().zip(&mut times) {
-            let (time, answer) = timed(|| asked_of_proved(question, lent));
+/// The two programs must agree.
+fn best(world: &World, case: &Case) -> Times {
+    let start = Instant::now();
+    let lengths = lengths_of(&case.rooms);
+    let changes = far_changes(world, case);
+    let mut rng = Rng::new(1);
+    let longest = Duration::MAX;
+    let mut best =
+        Times { proved: longest, second: longest, soundness: longest, changes: [longest; CHANGES] };
+    for _ in 0..ROUNDS {
+        let tables = junk(&mut rng, &lengths);
+        let proved = timed(&mut best.proved, || by_proved(case.texts(), tables));
+        let second = timed(&mut best.second, || by_second(case.texts(), &lengths));
+        assert!(proved == second, "The two programs differ.");
+
+        let lent = Lent::new(&proved.tables, case.texts());
+        let tables = proved.tables.each_ref().map(Vec::as_slice);
+        assert!(timed(&mut best.soundness, || proved::is_sound(tables)), "Loaded tables are not sound.");
+        for ((question, expected), time) in changes.iter().zip(&mut best.changes) {
+            let answer = timed(time, || asked_of_proved(question, lent));
             assert!(answer == *expected, "The two programs differ.");
-            *best = time.min(*best);
         }
-    });
-    (soundness, times.iter().sum::<Duration>() / changes.len() as u32)
+        if start.elapsed() > ENOUGH {
+            break;
+        }
+    }
+    best
 }
 
 /// Changes that come as far as XCHANGES, with the second program's answers.
-fn far_changes(world: &World, case: &Case, lent: Lent) -> Vec<(Question, Answered)> {
-    let loaded = second::load(&case.texts(), &case.rooms).expect("a sound delivery");
-    let examined: Examined = Ok(loaded);
+fn far_changes(world: &World, case: &Case) -> [(Question, Answered); CHANGES] {
+    let examined: Examined = Ok(second::load(&case.texts(), &case.rooms).expect("a sound delivery"));
+    // The second program has its store, and no use for tables.
+    let tables = Tables::default();
+    let lent = Lent::new(&tables, case.texts());
     let mut rng = Rng::new(1);
-    let asked = std::iter::repeat_with(|| question_on_tables(&mut rng, world));
-    let answered = asked.map(|question| {
+    array::from_fn(|_| loop {
+        let question = question_on_tables(&mut rng, world);
         let answer = asked_of_second(&question, lent, &examined);
-        (question, answer)
-    });
-    answered.filter(|(_, answer)| comes_far(answer)).take(CHANGES).collect()
+        if comes_far(&answer) {
+            return (question, answer);
+        }
+    })
 }
 
 fn comes_far(answer: &Answered) -> bool {
@@ -145,18 +149,10 @@ fn comes_far(answer: &Answered) -> bool {
     matches!(source, Some(Source::Stations | Source::XChanges))
 }
 
-fn for_some_rounds(mut round: impl FnMut()) {
-    let start = Instant::now();
-    for _ in 0..ROUNDS {
-        round();
-        if start.elapsed() > ENOUGH {
-            break;
-        }
-    }
-}
-
-fn timed<T>(work: impl FnOnce() -> T) -> (Duration, T) {
+/// Does the work, and keeps its time where it is the best so far.
+fn timed<T>(best: &mut Duration, work: impl FnOnce() -> T) -> T {
     let start = Instant::now();
     let result = work();
-    (start.elapsed(), result)
+    *best = start.elapsed().min(*best);
+    result
 }
