@@ -88,7 +88,7 @@ module _ (was is : List ℕ) (from to count left : ℕ) (high : from ≤ to) (in
             ap (λ (y : ℕ). set is (to + k) y) r
             ∙ ap (λ (l : List ℕ). set l (to + k) v) (rw p at (x .done))
             ∙ set-last was rest (to + k) v (omega (arith, x .few))
-            ∙ rw (m, drop-cons was (from + k) 0, q);
+            ∙ rw (m, drop-cons was (from + k) 0 g, q);
       }
 
   pub back-end : left ≤ 0 → is ≡ copied was from to count
