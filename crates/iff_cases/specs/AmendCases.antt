@@ -8,17 +8,18 @@ use mathlib.Core.Bool.{true}
 use lib.ListN.{replicate}
 use Rattle.iff.specs.Files.{PerFile}
 use Rattle.iff.specs.Columns.{form424}
-use Rattle.iff.specs.declared.File.the-variants.{Delivery, Timetbls}
+use Rattle.iff.specs.declared.GroupFile.the-variants.{Changes}
+use Rattle.iff.specs.declared.File.the-variants.{Delivery, Groups, Timetbls}
 use Rattle.iff_cases.specs.Text.{written}
 use Rattle.iff_cases.specs.Claims.{Claim, claim, Hold}
 use Rattle.iff_cases.specs.Opened.{opened}
-use Rattle.iff_cases.specs.Delivery.{small, put, omit, instead, at, edit, files, short, header, block7, block9, other8}
+use Rattle.iff_cases.specs.Delivery.{small, put, insert, omit, instead, at, edit, files, short, header, block7, block8, block9, other8}
 use Rattle.iff_rules.specs.Load.{loadTable}
 use Rattle.iff_desk.specs.Sound.{sound, rowsOfTables}
 use Rattle.iff_rules.specs.Rows.{contextOf}
 use Rattle.iff_desk.specs.Amend.{editedLength, amendAnswer, amendTimetbls, edited}
 use Rattle.iff_cases.specs.Shown.{Shown, accepted, refused, shown, TIMETBLS}
-use Rattle.iff_cases.specs.Stored.{AAA, BBB, CCC, timetblsFirst, rows7, rows9, timetblsWords, stored, rooms, keeping}
+use Rattle.iff_cases.specs.Stored.{AAA, BBB, CCC, timetblsFirst, rows7, rows8, rows9, timetblsWords, stored, rooms, keeping}
 
 -- the blocks of the second and the third of three amendments (the first is Delivery's other8)
 abbrev other7 : List String
@@ -210,6 +211,32 @@ blockLines =
 pub blockLines-hold : Hold blockLines
 unfolding opened
 blockLines-hold = (refl, (refl, (refl, (refl, (refl, (refl, (refl, (refl, (refl, (refl, (refl, tt)))))))))))
+
+-- THE ONLY SERVICE of a delivery that has no CHANGES, in a table with room for ten lines and a remainder
+abbrev alone : List ℕ → PerFile (List ℕ)
+alone words = at Timetbls (λ t. words) (keeping 0 (Groups Changes) stored)
+
+abbrev aloneWords : List ℕ
+aloneWords = timetblsFirst ++ (rows8 ++ replicate 8 0)
+
+-- what it becomes: nine lines for eight, and eight again
+abbrev aloneOther : List ℕ
+aloneOther = timetblsFirst ++ (otherRows8 ++ replicate 1 0)
+
+abbrev pub onlyService : List Claim
+onlyService =
+    claim "the only service" (amended (alone aloneWords) 8 (written other8)) (accepted 10 1, aloneOther) ∷
+    claim "and as it was" (amended (alone aloneOther) 8 (written block8)) (accepted 10 1, aloneWords) ∷
+    claim "to the very same lines" (amended (alone aloneWords) 8 (written block8)) (accepted 10 1, aloneWords) ∷
+    -- ten lines behind the first, where nine have room
+    claim "one line too many" (amended (alone aloneWords) 8 (written (insert 8 ";BBB    " (insert 8 ";BBB    " block8))))
+    (refused 2 TIMETBLS 0 0, aloneWords) ∷
+    claim "another service" (amended (alone aloneWords) 7 (written block7)) (refused 12 0 0 0, aloneWords) ∷
+    []
+
+pub onlyService-hold : Hold onlyService
+unfolding opened
+onlyService-hold = (refl, (refl, (refl, (refl, (refl, tt)))))
 
 -- 16
 abbrev pub unsound : List Claim
