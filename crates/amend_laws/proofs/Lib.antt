@@ -1,0 +1,4 @@
+pub mod GroupLists
+pub mod EditedText
+pub mod EditedVerdicts
+pub mod EditedBlocks
