@@ -25,7 +25,7 @@ use Rattle.iff_laws.specs.Places.{noGroup}
 use Rattle.iff_desk.specs.Sound.{rowSize}
 use Rattle.iff_desk.specs.Parts.{isHead, inner, isOneBlock}
 use Rattle.iff_desk.specs.Amend.{tableBlocks, placeOf, rowsBefore, rowsBehind, amendedRows}
-use Rattle.tables.proofs.Each.{Each}
+use Rattle.tables.proofs.Each.{Each, each-append}
 use Rattle.legs.proofs.RowLaws.{tag-is}
 use Rattle.block_rows.proofs.RowLaws.{rows-count, key-skips, block-keys}
 use Rattle.timetbls.proofs.GroupLaws.{front-closed}
@@ -51,6 +51,11 @@ module _ {A B : Type 0} (f : A → B) where
   unfolding position
   position-map p q [] u = refl
   position-map p q (x ∷ xs) u = rw (u .0, position-map p q xs (u .1))
+
+pub each-flat : {A : Type 0} (P : A → Type 0) (gs : List (Group A)) → Each (λ g. Each P (members g)) gs → Each P (flat gs)
+unfolding flat
+each-flat P [] u = tt
+each-flat P (g ∷ gs) u = (u .0 .0, each-append P (g .rest) (flat gs) (u .0 .1) (each-flat P gs (u .1)))
 
 -- A BLOCK'S ROWS
 module _ (form : Form) where
@@ -136,7 +141,7 @@ module _ (form : Form) (r : Row) (gs : List (Group Line)) (plain : isHashRow r �
 
 -- ONE BLOCK IN THE PLACE OF ANOTHER of the same service
 module _ (form : Form) (s : ℕ) (gs : List (Group Line)) (held : any (λ g. eqb (serviceOf form g) s) gs ≡ true) where
-  abbrev place : ℕ
+  abbrev pub place : ℕ
   place = position (λ g. eqb (serviceOf form g) s) gs
 
   pub place-inside : place < length gs
