@@ -1,1 +1,3 @@
 pub mod GroupLists
+pub mod NewBlock
+pub mod AmendedRows
