@@ -21,9 +21,8 @@ use Rattle.tables.proofs.Each.{Each, each-append}
 use Rattle.tables.proofs.Rows.{Used}
 use Rattle.block_rows.proofs.RowLaws.{rows-count}
 use Rattle.sound_laws.proofs.PassLaws.{Opens, groups-open, none-in-front, each-front, each-group}
-use Rattle.sound_laws.proofs.TimetblsLaws.{blockOf}
 use Rattle.amend_laws.proofs.GroupLists.{each-take, each-drop, each-flat, replaced, replaced-set, openers-kept, groups-replaced, front-replaced, position-inside, position-passes}
-use Rattle.amend_laws.proofs.NewBlock.{OneBlock, rows-are, rows-open, row-names}
+use Rattle.amend_laws.proofs.NewBlock.{newBlock, rows-are, rows-open}
 
 -- THE SERVICES of a table, in their order, are its blocks' numbers
 abbrev pub serviceIn : Group Row → ℕ
@@ -57,37 +56,34 @@ module _ (s : ℕ) where
 
 -- ONE BLOCK IN THE PLACE OF ANOTHER
 module _ (form : Form) (k : ℕ) (rs : List Row) (b : List ℕ) where
-  abbrev pub newBlock : Group Row
-  newBlock = blockOf form (asBlock b)
-
-  in-parts : amendedRows form k rs b
-      ≡ front isHashRow rs ++ (flat (take k (tableBlocks rs)) ++ (members newBlock ++ flat (drop (suc k) (tableBlocks rs))))
+  pub in-parts : amendedRows form k rs b
+      ≡ front isHashRow rs ++ (flat (take k (tableBlocks rs)) ++ (members (newBlock form b) ++ flat (drop (suc k) (tableBlocks rs))))
   in-parts =
       append-assoc (front isHashRow rs) (flat (take k (tableBlocks rs))) (blockRows form (asBlock b) ++ rowsBehind k rs)
       ∙ ap (λ (l : List Row). front isHashRow rs ++ (flat (take k (tableBlocks rs)) ++ (l ++ rowsBehind k rs))) (rows-are form (asBlock b))
 
   module _ (o : Opens isHash (asBlock b)) where
     -- the blocks: those of before, and the new one
-    pub amended-blocks : tableBlocks (amendedRows form k rs b) ≡ replaced k newBlock (tableBlocks rs)
+    pub amended-blocks : tableBlocks (amendedRows form k rs b) ≡ replaced k (newBlock form b) (tableBlocks rs)
     amended-blocks =
         ap tableBlocks in-parts
-        ∙ groups-replaced isHashRow (front isHashRow rs) k newBlock (tableBlocks rs) (none-in-front isHashRow rs) (rows-open form (asBlock b) o)
+        ∙ groups-replaced isHashRow (front isHashRow rs) k (newBlock form b) (tableBlocks rs) (none-in-front isHashRow rs) (rows-open form (asBlock b) o)
         (groups-open isHashRow rs)
 
     -- what stands before the first
     pub amended-front : front isHashRow (amendedRows form k rs b) ≡ front isHashRow rs
     amended-front =
         ap (front isHashRow) in-parts
-        ∙ front-replaced isHashRow (front isHashRow rs) k newBlock (tableBlocks rs) (none-in-front isHashRow rs) (rows-open form (asBlock b) o)
+        ∙ front-replaced isHashRow (front isHashRow rs) k (newBlock form b) (tableBlocks rs) (none-in-front isHashRow rs) (rows-open form (asBlock b) o)
         (groups-open isHashRow rs)
 
     -- the services, where the new block names that of the old one
-    pub amended-keys : (d : Group Row) → k < length (tableBlocks rs) → serviceIn newBlock ≡ serviceIn (getD (tableBlocks rs) k d)
+    pub amended-keys : (d : Group Row) → k < length (tableBlocks rs) → serviceIn (newBlock form b) ≡ serviceIn (getD (tableBlocks rs) k d)
         → keysOf Timetbls (amendedRows form k rs b) ≡ keysOf Timetbls rs
     amended-keys d h e =
         keys-of-blocks (amendedRows form k rs b)
-        ∙ ap (map serviceIn) (amended-blocks ∙ replaced-set k newBlock (tableBlocks rs) h)
-        ∙ map-set-same serviceIn (tableBlocks rs) k newBlock d e
+        ∙ ap (map serviceIn) (amended-blocks ∙ replaced-set k (newBlock form b) (tableBlocks rs) h)
+        ∙ map-set-same serviceIn (tableBlocks rs) k (newBlock form b) d e
         ∙ sym (keys-of-blocks rs)
 
   -- what each row has

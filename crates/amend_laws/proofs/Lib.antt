@@ -1,3 +1,4 @@
 pub mod GroupLists
 pub mod NewBlock
 pub mod AmendedRows
+pub mod AmendedTimetbls

@@ -96,6 +96,10 @@ module _ (form : Form) (g : Group Line) where
   unfolding blockRow padded fieldsOf recordOf blockRecord recordFields words fieldWords
   row-names e = let z : letter (g .top) ≡ hash = eqb-true _ _ e in rw z
 
+-- the block of rows that a text leaves
+abbrev pub newBlock : Form → List ℕ → Group Row
+newBlock form b = blockOf form (asBlock b)
+
 -- IN USE, where the lines pass
 any-line : (ls : List Line) → Each (λ l. Unit {0}) ls
 any-line [] = tt
