@@ -1,39 +1,36 @@
 -- TIMETBLS in parts: its lines are a first line and blocks, its rows the first line's row and the blocks' rows; one block in the place of another
 -- of the same service is one block's rows in the place of the other's. Laws over plain blocks. Assumes nothing.
-use Prim.Native.Nat.{ℕ, zero, suc, _+_, _<_}
-use mathlib.Core.Path.{_≡_, refl, ap, ap₂, sym, _∙_}
+use Prim.Native.Nat.{ℕ, zero, suc, _<_}
+use mathlib.Core.Path.{_≡_, refl, ap, sym, _∙_}
 use mathlib.Core.List.{List, [], _∷_, _++_, map, append-assoc}
-use mathlib.Core.Bool.{Bool, true, false, _&&_, _||_, not, cond, false≢true}
+use mathlib.Core.Bool.{Bool, true, false}
 use native.Mathlib.Omega.{arith}
 use lib.Dec.{eqb}
 use lib.ListN.{length, getD, take, drop, length-append}
-use lib.Seq.{set-split, map-set-same}
+use lib.Seq.{map-set-same}
 use borrow.Author.Tests.{eqb-true}
-use Rattle.iff.specs.Bytes.{hash, digit}
-use Rattle.iff.specs.Lists.{Group, front, groups, members, flat, any, all, kept, position, total}
-use Rattle.iff.specs.Lines.{Line, lines, letter, isHash, size, noLine}
-use Rattle.iff.specs.Columns.{cols, Number, columns, recordFields, blockRecord, recordOf, fieldsOf}
-use Rattle.iff.specs.Values.{numberOf, words, fieldWords}
-use Rattle.iff.specs.Tables.{Row, isHashRow, keysOf, padded}
+use Rattle.iff.specs.Lists.{Group, front, groups, members, flat, any, all, position, total}
+use Rattle.iff.specs.Lines.{Line, isHash, size}
+use Rattle.iff.specs.Tables.{Row, isHashRow, keysOf}
 use Rattle.iff.specs.Words.{named}
 use Rattle.iff.specs.declared.File.the-variants.{Timetbls}
 use Rattle.iff.specs.declared.Form.{Form}
-use Rattle.iff_rules.specs.Rows.{rowOf, blockRow, blockRowsFrom, blockRows, blocksRows, asBlock, stopsIn, linesIn}
+use Rattle.iff_rules.specs.Rows.{blockRowsFrom, blockRows, blocksRows, asBlock, stopsIn, linesIn}
 use Rattle.iff_rules.specs.Load.{serviceOf}
 use Rattle.iff_laws.specs.TruthLaws.{both}
 use Rattle.iff_laws.specs.Places.{noGroup}
 use Rattle.iff_desk.specs.Sound.{rowSize}
-use Rattle.iff_desk.specs.Parts.{isHead, inner, isOneBlock}
+use Rattle.iff_desk.specs.Parts.{isOneBlock}
 use Rattle.iff_desk.specs.Amend.{tableBlocks, placeOf, rowsBefore, rowsBehind, amendedRows}
-use Rattle.tables.proofs.Each.{Each, each-append}
-use Rattle.legs.proofs.RowLaws.{tag-is}
-use Rattle.block_rows.proofs.RowLaws.{rows-count, key-skips, block-keys}
+use Rattle.tables.proofs.Each.{Each}
+use Rattle.block_rows.proofs.RowLaws.{rows-count, key-skips}
 use Rattle.timetbls.proofs.GroupLaws.{front-closed}
-use Rattle.sound_laws.proofs.PassLaws.{Opens}
+use Rattle.sound_laws.proofs.PassLaws.{Opens, total-append}
 use Rattle.sound_laws.proofs.PlainLaws.{Laid}
-use Rattle.sound_laws.proofs.TimetblsLaws.{blockOf, front-blocks, groups-blocks, keys-of-blocks, total-append, block-sizes}
-use Rattle.amend_laws.proofs.GroupLists.{replaced, each-take, each-drop, position-inside, position-passes}
-use Rattle.amend_laws.proofs.EditedText.{all-each, Ended}
+use Rattle.sound_laws.proofs.TimetblsLaws.{blockOf, front-blocks, groups-blocks, keys-of-blocks, block-sizes}
+use Rattle.amend_laws.proofs.GroupLists.{replaced, replaced-set, each-of-all, position-inside, position-passes}
+use Rattle.amend_laws.proofs.NewBlock.{service-is, row-names}
+use Rattle.amend_laws.proofs.EditedText.{Ended}
 
 -- LISTS
 module _ {A B : Type 0} (f : A → B) where
@@ -52,21 +49,10 @@ module _ {A B : Type 0} (f : A → B) where
   position-map p q [] u = refl
   position-map p q (x ∷ xs) u = rw (u .0, position-map p q xs (u .1))
 
-pub each-flat : {A : Type 0} (P : A → Type 0) (gs : List (Group A)) → Each (λ g. Each P (members g)) gs → Each P (flat gs)
-unfolding flat
-each-flat P [] u = tt
-each-flat P (g ∷ gs) u = (u .0 .0, each-append P (g .rest) (flat gs) (u .0 .1) (each-flat P gs (u .1)))
-
 -- A BLOCK'S ROWS
 module _ (form : Form) where
   top-names : (g : Group Line) → Opens isHash g → named (blockOf form g .top) ≡ serviceOf form g
-  unfolding kept blockRowsFrom
-  top-names g u =
-      let r : Row = blockRow form (stopsIn g) (linesIn g) 1 (g .top) in
-      let rs : List Row = blockRowsFrom form (stopsIn g) (linesIn g) 2 (g .rest) in
-      let h : isHashRow r ≡ true = rw tag-is (u .0) in
-      let q : keysOf Timetbls (r ∷ rs) ≡ named r ∷ keysOf Timetbls rs = rw h in
-      ap (λ (ks : List ℕ). getD ks 0 0) (sym q ∙ block-keys form g (u .0) (u .1))
+  top-names g u = row-names form g (u .0) ∙ sym (service-is form g (u .0))
 
   blocks-flat : (gs : List (Group Line)) → flat (map (blockOf form) gs) ≡ blocksRows form gs
   unfolding flat blocksRows blockRowsFrom
@@ -98,9 +84,9 @@ module _ (form : Form) where
   blocks-sizes (g ∷ gs) u =
       omega (
         arith,
-        total-append form (rowSize form Timetbls) (blockRows form g) (blocksRows form gs),
+        total-append (rowSize form Timetbls) (blockRows form g) (blocksRows form gs),
         block-sizes form (stopsIn g) (linesIn g) 1 (members g) (u .0),
-        total-append form size (g .rest) (flat gs),
+        total-append size (g .rest) (flat gs),
         blocks-sizes gs (u .1),
       )
 
@@ -152,51 +138,11 @@ module _ (form : Form) (s : ℕ) (gs : List (Group Line)) (held : any (λ g. eqb
 
   pub services-kept : (g : Group Line) → serviceOf form g ≡ s → map (serviceOf form) (replaced place g gs) ≡ map (serviceOf form) gs
   services-kept g e =
-      ap (map (serviceOf form)) (sym (set-split gs place g place-inside))
+      ap (map (serviceOf form)) (replaced-set place g gs place-inside)
       ∙ map-set-same (serviceOf form) gs place g noGroup (e ∙ sym place-names)
 
--- A TEXT THAT IS ONE BLOCK
-pub record OneBlock (form : Form) (s : ℕ) (b : List ℕ) : Type 0 where
-  pub ends : Each Ended (lines b)
-  pub is : lines b ≡ members (asBlock b)
-  pub opens : Opens isHash (asBlock b)
-  pub names-it : serviceOf form (asBlock b) ≡ s
-
-none-inner : (ls : List Line) → all inner ls ≡ true → any isHash ls ≡ false
-unfolding all any
-none-inner [] e = refl
-none-inner (l ∷ ls) e = go (isHash l) (both (inner l) (all inner ls) e .0) (none-inner ls (both (inner l) (all inner ls) e .1))
-  where
-    go : (h : Bool) → not (h || eqb (letter l) 64) ≡ true → any isHash ls ≡ false → (h || any isHash ls) ≡ false
-    go true q f = absurd (false≢true q)
-    go false q f = f
-
-head-names : (form : Form) (s : ℕ) (l : Line) → isHash l ≡ true → eqb (numberOf (columns (l .body) (cols 2 9 Number))) s ≡ true
-    → named (rowOf form Timetbls l) ≡ s
-unfolding rowOf padded fieldsOf recordOf blockRecord recordFields words fieldWords
-head-names form s l h e = let z : letter l ≡ hash = eqb-true _ _ h in rw z (eqb-true _ _ e)
-
-block-parts : (form : Form) (s : ℕ) (l : Line) (ls : List Line) → isOneBlock s (l ∷ ls) ≡ true
-    → Each Ended (l ∷ ls) × (Opens isHash (record { top = l; rest = ls }) × (named (rowOf form Timetbls l) ≡ s))
-unfolding isOneBlock isHead
-block-parts form s l ls e =
-    let z = both (all (λ (x : Line). x .ended) (l ∷ ls)) _ e in
-    let y = both (isHead s l) (all inner ls) (z .1) in
-    let n = columns (l .body) (cols 2 9 Number) in
-    let x = both (eqb (length (l .body)) 9) (isHash l && (all digit n && eqb (numberOf n) s)) (y .0) in
-    let w = both (isHash l) (all digit n && eqb (numberOf n) s) (x .1) in
-    let v = both (all digit n) (eqb (numberOf n) s) (w .1) in
-    (all-each (λ (x : Line). x .ended) (l ∷ ls) (z .0), ((w .0, none-inner ls (y .1)), head-names form s l (w .0) (v .1)))
-
-pub no-block : (s : ℕ) → isOneBlock s [] ≡ true → ⊥
+-- A TEXT THAT IS ONE BLOCK: CR LF ends its lines
+pub block-ends : (s : ℕ) (ls : List Line) → isOneBlock s ls ≡ true → Each Ended ls
 unfolding isOneBlock
-no-block s e = false≢true e
-
-pub one-block : (form : Form) (s : ℕ) (b : List ℕ) → isOneBlock s (lines b) ≡ true → OneBlock form s b
-one-block form s b e = go (lines b) refl e
-  where
-    go : (ls : List Line) → lines b ≡ ls → isOneBlock s ls ≡ true → OneBlock form s b
-    go [] q e = absurd (no-block s e)
-    go (l ∷ ls) q e =
-        let z = block-parts form s l ls e in
-        record { ends = rw q (z .0); is = rw q; opens = rw q (z .1 .0); names-it = rw q (z .1 .1) }
+block-ends s [] e = tt
+block-ends s (l ∷ ls) e = each-of-all (λ (x : Line). x .ended) (l ∷ ls) (both (all (λ (x : Line). x .ended) (l ∷ ls)) _ e .0)

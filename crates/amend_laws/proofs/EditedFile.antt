@@ -1,24 +1,22 @@
 -- TIMETBLS, accepted, with one block in the place of its service's lines: the edited text's lines, its length, its verdict and its rows, told by
 -- the rows of the text as it was. Assumes that the bytes are bytes, and nothing else.
 use Prim.Native.Nat.{ℕ, suc, _+_, _<_}
-use mathlib.Core.Path.{_≡_, refl, ap, ap₂, sym, _∙_}
+use mathlib.Core.Path.{_≡_, refl, ap, sym, _∙_}
 use mathlib.Core.List.{List, [], _∷_, _++_, map}
-use mathlib.Core.Bool.{Bool, true, false, _&&_}
+use mathlib.Core.Bool.{true, false}
 use native.Mathlib.Omega.{arith}
 use lib.Dec.{eqb}
 use lib.ListN.{length, getD, take, drop, length-append}
 use lib.Seq.{split-at, length-take-le}
 use borrow.Author.Tests.{eqb-true, eq-eqb, ltb-true, lt-ltb}
-use Rattle.iff.specs.Bytes.{hash, at}
-use Rattle.iff.specs.Lists.{Group, front, groups, members, flat, any, position, total, same, has}
-use Rattle.iff.specs.Refusals.{verdictAt, firstFault, scan}
-use Rattle.iff.specs.Lines.{Line, lines, text, letter, isHash, size}
+use Rattle.iff.specs.Bytes.{at}
+use Rattle.iff.specs.Lists.{Group, front, groups, members, flat, any, total, same, has}
+use Rattle.iff.specs.Refusals.{verdictAt, scan}
+use Rattle.iff.specs.Lines.{Line, lines, text, letter, isHash}
 use Rattle.iff.specs.Columns.{firstFields, picture, fits}
 use Rattle.iff.specs.Tables.{Row, isHashRow, keysOf, rising, padded}
 use Rattle.iff.specs.declared.File.the-variants.{Timetbls}
-use Rattle.iff.specs.declared.Form.{Form}
 use Rattle.iff.specs.declared.Place.the-variants.{At}
-use Rattle.iff.specs.declared.Verdict.{Verdict}
 use Rattle.iff.specs.declared.Verdict.the-variants.{Fine}
 use Rattle.iff_rules.specs.Order.{knownInBlock}
 use Rattle.iff_rules.specs.Rows.{blocksRows, blocksOf, asBlock, firstRowOf, rowsOfLines, Context}
@@ -27,9 +25,8 @@ use Rattle.iff_laws.specs.ScanLaws.{verdict-fine, first-one, cons-fine}
 use Rattle.iff_laws.specs.TruthLaws.{says-any, any-map}
 use Rattle.iff_laws.specs.LineLaws.{line-passes}
 use Rattle.iff_laws.specs.Places.{noGroup}
-use Rattle.iff_desk.specs.Sound.{rowSize, firstSize}
 use Rattle.iff_desk.specs.Parts.{isOneBlock}
-use Rattle.iff_desk.specs.Amend.{placeOf, rowsBefore, rowsBehind, editedLength, editedLines, amendedRows, edited}
+use Rattle.iff_desk.specs.Amend.{placeOf, editedLength, editedLines, amendedRows, edited}
 use Rattle.text.proofs.PictureLaws.{and-left}
 use Rattle.text.proofs.PackLaws.{Each as EachByte}
 use Rattle.tables.proofs.Each.{Each}
@@ -39,10 +36,11 @@ use Rattle.sound_laws.proofs.PlainLaws.{InBytes, Laid}
 use Rattle.sound_laws.proofs.TextLaws.{lines-bytes, some-lines}
 use Rattle.sound_laws.proofs.TimetblsLaws.{no-stray, blocks-fine, block-bytes, block-laid, keys-of-blocks}
 use Rattle.sound_laws.proofs.FileLaws.{FirstFine, file-fine, first-size}
-use Rattle.amend_laws.proofs.GroupLists.{replaced, flat-replaced, each-take, each-drop, front-flat, groups-flat, replaced-open}
+use Rattle.amend_laws.proofs.GroupLists.{replaced, flat-replaced, each-flat, each-take, each-drop, front-flat, groups-flat, replaced-open}
+use Rattle.amend_laws.proofs.NewBlock.{OneBlock, one-block, service-is}
 use Rattle.amend_laws.proofs.EditedText.{Ended, Whole, lines-whole, lines-between, length-between, append-bytes, text-bytes}
 use Rattle.amend_laws.proofs.EditedVerdicts.{past-fine, scan-replaced}
-use Rattle.amend_laws.proofs.EditedBlocks.{take-map, OneBlock, one-block, blocks-count, blocks-sizes, keys-are, before-are, behind-are, place-is, amended-are, place, place-inside, place-names, services-kept, each-flat}
+use Rattle.amend_laws.proofs.EditedBlocks.{take-map, block-ends, blocks-count, blocks-sizes, keys-are, before-are, behind-are, place-is, amended-are, place, place-inside, place-names, services-kept}
 
 -- WHAT AN AMENDMENT TELLS BY A TABLE'S ROWS of the text that it stands for: the tests 1 and 2, the verdict, the rows and the services
 pub record Told (c : Context) (header : List ℕ) (rs : List Row) (s : ℕ) (b u : List ℕ) : Type 0 where
@@ -127,7 +125,10 @@ module _ (c : Context) (header : List ℕ) (t : List ℕ) (l : Line) (ls : List 
   plain = refl
 
   -- WITH ONE BLOCK in the place of its service's lines
-  module _ (s : ℕ) (b : List ℕ) (o : OneBlock (c .form) s b) (held : any (λ g. eqb (serviceOf (c .form) g) s) gs ≡ true) where
+  module _ (s : ℕ) (b : List ℕ) (o : OneBlock s b) (ends : Each Ended (lines b)) (held : any (λ g. eqb (serviceOf (c .form) g) s) gs ≡ true) where
+    names-it : serviceOf (c .form) (asBlock b) ≡ s
+    names-it = service-is (c .form) (asBlock b) (o .opens .0) ∙ o .number-is
+
     abbrev k : ℕ
     k = place (c .form) s gs held
 
@@ -153,7 +154,7 @@ module _ (c : Context) (header : List ℕ) (t : List ℕ) (l : Line) (ls : List 
     edited-lines : lines (edited (c .form) t s b) ≡ l ∷ flat hs
     edited-lines =
         ap lines edited-is
-        ∙ lines-between xs ys b (xs-each Whole whole) (o .ends) (ys-each Whole whole)
+        ∙ lines-between xs ys b (xs-each Whole whole) ends (ys-each Whole whole)
         ∙ ap (λ (ks : List Line). l ∷ (flat (take k gs) ++ (ks ++ ys))) (o .is)
         ∙ ap (λ (ks : List Line). l ∷ ks) (flat-replaced k (asBlock b) gs)
 
@@ -175,7 +176,7 @@ module _ (c : Context) (header : List ℕ) (t : List ℕ) (l : Line) (ls : List 
         let h : k < length gs = place-inside (c .form) s gs held in
         let m : 1 + length (take k gs) ≡ suc k = omega (arith, length-take-le k gs (omega arith)) in
         scan-replaced (λ seen n g. blockVerdict c seen n g) (serviceOf (c .form)) old (asBlock b)
-        (o .names-it ∙ sym (place-names (c .form) s gs held)) [] 1 (take k gs) (drop (suc k) gs)
+        (names-it ∙ sym (place-names (c .form) s gs held)) [] 1 (take k gs) (drop (suc k) gs)
         (ap (scan (λ seen n g. blockVerdict c seen n g) (λ seen g. seen ++ (serviceOf (c .form) g ∷ [])) [] 1) (sym (split-at gs k noGroup h))
         ∙ blocks-fine c ls (bytes .1) later-fine)
         ∙ ap (λ (n : ℕ). blockVerdict c (map (serviceOf (c .form)) (take k gs)) n (asBlock b)) m
@@ -196,7 +197,7 @@ module _ (c : Context) (header : List ℕ) (t : List ℕ) (l : Line) (ls : List 
     -- its rows
     services-same : keysOf Timetbls (blocksRows (c .form) hs) ≡ keysOf Timetbls (blocksRows (c .form) gs)
     services-same =
-        keys-of-blocks (c .form) hs new-opens ∙ services-kept (c .form) s gs held (asBlock b) (o .names-it) ∙ sym (keys-of-blocks (c .form) gs opens)
+        keys-of-blocks (c .form) hs new-opens ∙ services-kept (c .form) s gs held (asBlock b) names-it ∙ sym (keys-of-blocks (c .form) gs opens)
 
     edited-rows : rowsOfLines (c .form) Timetbls (lines (edited (c .form) t s b)) ≡ r ∷ blocksRows (c .form) hs
     unfolding rowsOfLines
@@ -218,14 +219,14 @@ module _ (c : Context) (header : List ℕ) (t : List ℕ) (l : Line) (ls : List 
         let p = blocks-sizes (c .form) (take k gs) (each-take (λ g. Each (Laid (c .form) Timetbls) (members g)) k gs laid) in
         let q = blocks-sizes (c .form) (drop (suc k) gs) (each-drop (λ g. Each (Laid (c .form) Timetbls) (members g)) (suc k) gs laid) in
         rw (before-are (c .form) r gs plain opens k, behind-are (c .form) r gs plain opens k, edited-is)
-        (omega (arith, p, q, first-size header Timetbls l (bytes .0) first-fine, length-between xs ys b (xs-each Whole whole) (o .ends) (ys-each Whole whole)))
+        (omega (arith, p, q, first-size header Timetbls l (bytes .0) first-fine, length-between xs ys b (xs-each Whole whole) ends (ys-each Whole whole)))
 
     told-lines : editedLines k rs b ≡ length (lines (edited (c .form) t s b))
     told-lines =
         let p = blocks-count (c .form) (take k gs) in
         let q = blocks-count (c .form) (drop (suc k) gs) in
         let m : length (lines (edited (c .form) t s b)) ≡ length (xs ++ (lines b ++ ys)) =
-        ap length (ap lines edited-is ∙ lines-between xs ys b (xs-each Whole whole) (o .ends) (ys-each Whole whole)) in
+        ap length (ap lines edited-is ∙ lines-between xs ys b (xs-each Whole whole) ends (ys-each Whole whole)) in
         rw (before-are (c .form) r gs plain opens k, behind-are (c .form) r gs plain opens k)
         (omega (arith, p, q, m, length-append xs (lines b ++ ys), length-append (lines b) ys))
 
@@ -239,7 +240,7 @@ module _ (c : Context) (header : List ℕ) (t : List ℕ) (l : Line) (ls : List 
           rows = rw (placed, amended-are (c .form) r gs plain opens k b) (sym edited-rows);
           services =
               ap (keysOf Timetbls) edited-rows ∙ keys-are (c .form) r hs plain new-opens
-              ∙ services-kept (c .form) s gs held (asBlock b) (o .names-it) ∙ sym (keys-are (c .form) r gs plain opens);
+              ∙ services-kept (c .form) s gs held (asBlock b) names-it ∙ sym (keys-are (c .form) r gs plain opens);
         }
 
 -- THE LAW of the file: an accepted TIMETBLS of bytes, one block, and a service that is held
@@ -255,8 +256,9 @@ module _ (c : Context) (header t : List ℕ) (bytes : EachByte 256 t) (some : 0 
   by-lines (l ∷ ls) q n u e h =
       let k = keys-are (c .form) (r c header t l ls q u e) (blocksOf ls) (plain c header t l ls q u e) (opens c header t l ls q u e) in
       let g = has-any noGroup (serviceOf (c .form)) s (blocksOf ls) (ap (has s) (sym k) ∙ h) in
-      let o = one-block (c .form) s b one in
-      (told-by-rows c header t l ls q u e s b o g, edited-bytes c header t l ls q u e s b o g)
+      let o = one-block s b one in
+      let v = block-ends s (lines b) one in
+      (told-by-rows c header t l ls q u e s b o v g, edited-bytes c header t l ls q u e s b o v g)
 
   edited-file : Edited (lines t)
   edited-file = by-lines (lines t) refl (ltb-true 0 _ (some-lines t ∙ lt-ltb 0 _ some)) (lines-bytes t bytes) e held

@@ -1,17 +1,16 @@
 -- Lines that CR LF ends, put together anew: their text has those lines, before any text and behind one that CR LF ends; their sizes make its
 -- length, and its bytes are theirs. Laws over plain lists. Assumes nothing.
-use Prim.Native.Nat.{ℕ, zero, suc, _+_, _<_}
+use Prim.Native.Nat.{ℕ, suc, _+_}
 use mathlib.Core.Path.{_≡_, refl, ap, sym, _∙_}
 use mathlib.Core.List.{List, [], _∷_, _++_, append-assoc, append-nil}
-use mathlib.Core.Bool.{Bool, true, false, cond, _&&_}
+use mathlib.Core.Bool.{Bool, true, false, cond}
 use native.Mathlib.Omega.{arith}
 use lib.Dec.{lit<}
 use lib.ListN.{length, take, drop, length-append}
 use lib.Seq.{take-at}
 use Rattle.iff.specs.Bytes.{cr, lf}
-use Rattle.iff.specs.Lists.{all, total}
+use Rattle.iff.specs.Lists.{total}
 use Rattle.iff.specs.Lines.{Line, lines, text, size, width, firstLine}
-use Rattle.iff_laws.specs.TruthLaws.{both}
 use Rattle.text.proofs.PackLaws.{Each as EachByte}
 use Rattle.text.proofs.CutLaws.{text-lines, closed-end}
 use Rattle.text.proofs.LineLaws.{lines-nil, lines-step}
@@ -21,12 +20,6 @@ use Rattle.sound_laws.proofs.TextLaws.{length-text, no-byte, with-byte}
 
 abbrev ending : List ℕ
 ending = cr ∷ lf ∷ []
-
--- what every entry passes, each has
-pub all-each : {A : Type 0} (p : A → Bool) (xs : List A) → all p xs ≡ true → Each (λ x. p x ≡ true) xs
-unfolding all
-all-each p [] e = tt
-all-each p (x ∷ xs) e = let z = both (p x) (all p xs) e in (z .0, all-each p xs (z .1))
 
 -- A LINE OF A TEXT that CR LF ends: alone with its end, it is one line
 abbrev pub Ended : Line → Type 0

@@ -2,14 +2,16 @@
 -- is one that `Opens`; entries among which there is no opener have `any h fs ≡ false`. Assumes nothing.
 use Prim.Native.Nat.{ℕ, zero, suc, _<_}
 use mathlib.Core.Path.{_≡_, refl, ap, sym, _∙_}
-use mathlib.Core.List.{List, [], _∷_, _++_, append-assoc, append-nil}
+use mathlib.Core.List.{List, [], _∷_, _++_, map, map-id, append-assoc}
 use mathlib.Core.Bool.{Bool, true, false, _||_, cond, false≢true}
 use native.Mathlib.Omega.{arith}
-use lib.ListN.{length, getD, take, drop, take-append-drop}
-use Rattle.iff.specs.Lists.{Group, front, groups, members, flat, any, position}
+use lib.ListN.{length, getD, take, drop, set, take-append-drop}
+use lib.Seq.{set-split}
+use Rattle.iff.specs.Lists.{Group, front, groups, members, flat, all, any, kept, position}
+use Rattle.iff_laws.specs.TruthLaws.{both}
 use Rattle.tables.proofs.Each.{Each, each-append}
 use Rattle.timetbls.proofs.GroupLaws.{front-past, groups-past, groups-first, front-open}
-use Rattle.sound_laws.proofs.PassLaws.{Opens}
+use Rattle.sound_laws.proofs.PassLaws.{each-all, Opens}
 
 -- EACH, of a part of a list
 module _ {A : Type 0} (P : A → Type 0) where
@@ -30,6 +32,19 @@ module _ {A : Type 0} (P : A → Type 0) where
   pub each-right : (xs ys : List A) → Each P (xs ++ ys) → Each P ys
   each-right [] ys u = u
   each-right (x ∷ xs) ys u = each-right xs ys (u .1)
+
+-- a test of all
+module _ {A : Type 0} (p : A → Bool) where
+  abbrev pub Passes : A → Type 0
+  Passes x = p x ≡ true
+
+  pub each-of-all : (xs : List A) → all p xs ≡ true → Each Passes xs
+  unfolding all
+  each-of-all [] e = tt
+  each-of-all (x ∷ xs) e = let b = both (p x) (all p xs) e in (b .0, each-of-all xs (b .1))
+
+  pub all-of-each : (xs : List A) → Each Passes xs → all p xs ≡ true
+  all-of-each xs u = rw map-id at (each-all p (λ x. x) xs u)
 
 -- GROUPS ONE AFTER THE OTHER
 module _ {A : Type 0} where
@@ -54,6 +69,16 @@ module _ {A : Type 0} where
       → flat (take k gs) ++ (members g ++ flat (drop (suc k) gs)) ≡ flat (replaced k g gs)
   flat-replaced k g gs = ap (λ (l : List A). flat (take k gs) ++ l) (sym (flat-cons g (drop (suc k) gs))) ∙ sym (flat-append (take k gs) (g ∷ drop (suc k) gs))
 
+  -- where there is one at k
+  pub replaced-set : (k : ℕ) (g : Group A) (gs : List (Group A)) → k < length gs → replaced k g gs ≡ set gs k g
+  replaced-set k g gs h = sym (set-split gs k g h)
+
+  -- what all their entries have
+  pub each-flat : (P : A → Type 0) (gs : List (Group A)) → Each (λ g. Each P (members g)) gs → Each P (flat gs)
+  unfolding flat
+  each-flat P [] u = tt
+  each-flat P (g ∷ gs) u = (u .0 .0, each-append P (g .rest) (flat gs) (u .0 .1) (each-flat P gs (u .1)))
+
 -- A LIST AND ITS GROUPS
 module _ {A : Type 0} (h : A → Bool) where
   pub regrouped : (xs : List A) → xs ≡ front h xs ++ flat (groups h xs)
@@ -65,6 +90,17 @@ module _ {A : Type 0} (h : A → Bool) where
           → x ∷ xs ≡ cond b [] (x ∷ front h xs) ++ flat (cond b (record { top = x; rest = front h xs } ∷ groups h xs) (groups h xs))
       go true e = ap (λ (l : List A). x ∷ l) e
       go false e = ap (λ (l : List A). x ∷ l) e
+
+  -- the openers are the groups' first entries
+  pub openers-kept : (xs : List A) → kept h xs ≡ map (λ g. g .top) (groups h xs)
+  unfolding kept groups
+  openers-kept [] = refl
+  openers-kept (x ∷ xs) = go (h x) (openers-kept xs)
+    where
+      go : (b : Bool) → kept h xs ≡ map (λ g. g .top) (groups h xs)
+          → cond b (x ∷ kept h xs) (kept h xs) ≡ map (λ g. g .top) (cond b (record { top = x; rest = front h xs } ∷ groups h xs) (groups h xs))
+      go true e = ap (λ (l : List A). x ∷ l) e
+      go false e = e
 
   -- entries that open nothing stand before the first opener, with what stands there behind them
   pub front-behind : (fs xs : List A) → any h fs ≡ false → front h (fs ++ xs) ≡ fs ++ front h xs

@@ -79,7 +79,7 @@ abbrev soundWith : PerFile (List ℕ) → PerFile (List Row) → Bool
 soundWith T D =
     all (λ f. soundTable (contextOf D) D f (of T f)) inOrder && names (contextOf D) (Rows Company) (ownCompany (firstOf (D .delivery)))
 
-sound-by : (T : PerFile (List ℕ)) (D : PerFile (List Row)) → rowsOfTables T ≡ D → ((f : File) → soundTable (contextOf D) D f (of T f) ≡ true)
+pub sound-by : (T : PerFile (List ℕ)) (D : PerFile (List Row)) → rowsOfTables T ≡ D → ((f : File) → soundTable (contextOf D) D f (of T f) ≡ true)
     → names (contextOf D) (Rows Company) (ownCompany (firstOf (D .delivery))) ≡ true → sound T ≡ true
 unfolding sound
 sound-by T D e m n = ap (soundWith T) e ∙ and-both (every-file (λ f. soundTable (contextOf D) D f (of T f)) m inOrder) n

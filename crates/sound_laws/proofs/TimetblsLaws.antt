@@ -34,7 +34,7 @@ use Rattle.legs.proofs.RowLaws.{tag-is, stops-same}
 use Rattle.block_rows.proofs.RowLaws.{rows-count, keys-nil, block-keys}
 use Rattle.keys.proofs.Fills.{keys-append}
 use Rattle.timetbls.proofs.GroupLaws.{groups-first, front-open}
-use Rattle.sound_laws.proofs.PassLaws.{scan-passes, scan-each, all-hold, each-all, each-front, each-group, each-entry, Opens, groups-open}
+use Rattle.sound_laws.proofs.PassLaws.{scan-passes, scan-each, total-append, all-hold, each-all, each-front, each-group, each-entry, Opens, groups-open}
 use Rattle.sound_laws.proofs.BlockLaws.{block-size, block-seven, block-row, rows-stand, counts-are}
 use Rattle.sound_laws.proofs.PlainLaws.{InBytes, Laid}
 
@@ -43,7 +43,7 @@ module _ (form : Form) where
   abbrev pub blockOf : Group Line → Group Row
   blockOf g = record { top = blockRow form (stopsIn g) (linesIn g) 1 (g .top); rest = blockRowsFrom form (stopsIn g) (linesIn g) 2 (g .rest) }
 
-  none-open : (n k j : ℕ) (ls : List Line) → any isHash ls ≡ false → any isHashRow (blockRowsFrom form n k j ls) ≡ false
+  pub none-open : (n k j : ℕ) (ls : List Line) → any isHash ls ≡ false → any isHashRow (blockRowsFrom form n k j ls) ≡ false
   unfolding any blockRowsFrom
   none-open n k j [] e = refl
   none-open n k j (l ∷ ls) e = rw (tag-is form n k j l) (go (isHash l) e (none-open n k (suc j) ls))
@@ -77,11 +77,6 @@ module _ (form : Form) where
       keys-append Timetbls (blockRows form g) (blocksRows form gs) ∙ rw (block-keys form g (u .0 .0) (u .0 .1), keys-of-blocks gs (u .1))
 
   -- they tell the lines' length
-  pub total-append : {A : Type 0} (size : A → ℕ) (xs ys : List A) → total size (xs ++ ys) ≡ total size xs + total size ys
-  unfolding total
-  total-append size [] ys = omega arith
-  total-append size (x ∷ xs) ys = omega (arith, total-append size xs ys)
-
   pub block-sizes : (n k j : ℕ) (ls : List Line) → Each (Laid form Timetbls) ls → total (rowSize form Timetbls) (blockRowsFrom form n k j ls) ≡ total size ls
   unfolding total blockRowsFrom
   block-sizes n k j [] u = refl
@@ -147,7 +142,7 @@ module _ (c : Context) (seen : List ℕ) (o : ℕ) (g : Group Line) (bytes : Eac
       })
       blockStart 1 (members g) bytes lines-fine
 
-  block-sound : soundBlock c (blockOf (c .form) g) ≡ true
+  pub block-sound : soundBlock c (blockOf (c .form) g) ≡ true
   unfolding soundBlock blockRowsFrom
   block-sound =
       let h : isHash (g .top) ≡ true = eq-eqb _ _ top-hash in
