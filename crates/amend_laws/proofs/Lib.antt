@@ -2,7 +2,9 @@ pub mod GroupLists
 pub mod NewBlock
 pub mod AmendedRows
 pub mod AmendedTimetbls
+pub mod OtherTables
 pub mod EditedText
 pub mod EditedVerdicts
 pub mod EditedBlocks
 pub mod EditedFile
+pub mod EditedLoad
