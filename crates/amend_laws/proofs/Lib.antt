@@ -8,3 +8,5 @@ pub mod EditedVerdicts
 pub mod EditedBlocks
 pub mod EditedFile
 pub mod EditedLoad
+pub mod DemandThree
+pub mod ManyAmendments

@@ -1,0 +1,112 @@
+-- LAW: AMENDMENTS ONE AFTER THE OTHER, whatever they are: after each, the tables are the load's of the files with every accepted block in the place
+-- of its service's lines, and that load is without fault. It assumes that files and blocks are made of bytes, and nothing else.
+use Prim.Native.Nat.{ℕ}
+use mathlib.Core.Path.{_≡_, refl, ap, sym, subst, _∙_}
+use mathlib.Core.List.{List, [], _∷_}
+use mathlib.Core.Bool.{Bool, true, false, cond, false≢true}
+use Rattle.iff.specs.Files.{PerFile, perFile}
+use Rattle.iff.specs.Refusals.{firstFault, fine}
+use Rattle.iff.specs.Lines.{lines}
+use Rattle.iff.specs.declared.File.the-variants.{Timetbls}
+use Rattle.iff.specs.declared.Verdict.{Verdict}
+use Rattle.iff.specs.declared.Verdict.the-variants.{Fine, Fault}
+use Rattle.iff_rules.specs.Rows.{contextOf}
+use Rattle.iff_rules.specs.References.{names}
+use Rattle.iff_rules.specs.Load.{loadVerdict, loadTable}
+use Rattle.iff_laws.specs.ScanLaws.{no-fault-all, unless-passes, verdict-fine}
+use Rattle.iff_desk.specs.Sound.{rowsOfTables, sound}
+use Rattle.iff_desk.specs.Parts.{isOneBlock}
+use Rattle.iff_desk.specs.Amend.{amendVerdict, amendTimetbls}
+use Rattle.text.proofs.PackLaws.{Each as EachByte}
+use Rattle.tables.proofs.Each.{Each}
+use native.Mathlib.Omega.{arith}
+use Rattle.sound_laws.proofs.SoundLaws.{OfBytes}
+use Rattle.amend_laws.proofs.OtherTables.{withTimetbls}
+use Rattle.amend_laws.proofs.DemandThree.{editedFiles, held-same, still-fine, same-tables, edited-bytes}
+
+-- WHAT AN AMENDMENT LEAVES
+-- "a refused amendment leaves every table as it stood"
+pub refused-stays : (T : PerFile (List ℕ)) (s : ℕ) (b : List ℕ) → fine (amendVerdict T s b) ≡ false → amendTimetbls T s b ≡ T .timetbls
+unfolding amendTimetbls
+refused-stays T s b e = rw e
+
+-- an accepted one was one block of a service that is held, of sound tables
+pub record Accepted (T : PerFile (List ℕ)) (s : ℕ) (b : List ℕ) : Type 0 where
+  pub of-sound : sound T ≡ true
+  pub one-block : isOneBlock s (lines b) ≡ true
+  pub held : names (contextOf (rowsOfTables T)) Timetbls s ≡ true
+
+pub accepted-was : (T : PerFile (List ℕ)) (s : ℕ) (b : List ℕ) → amendVerdict T s b ≡ Fine → Accepted T s b
+unfolding amendVerdict
+accepted-was T s b e =
+    record {
+      of-sound = unless-passes _ _ (verdict-fine _ _ (no-fault-all _ e 0 (omega arith)));
+      one-block = unless-passes _ _ (verdict-fine _ _ (no-fault-all _ e 1 (omega arith)));
+      held = unless-passes _ _ (verdict-fine _ _ (no-fault-all _ e 2 (omega arith)));
+    }
+
+-- ONE AFTER THE OTHER: the tables after some, and the files that they stand for
+pub record Amendment : Type 0 where
+  pub service : ℕ
+  pub block : List ℕ
+
+abbrev pub tablesAfter : PerFile (List ℕ) → Amendment → PerFile (List ℕ)
+tablesAfter T a = withTimetbls T (amendTimetbls T (a .service) (a .block))
+
+abbrev pub filesAfter : PerFile (List ℕ) → PerFile (List ℕ) → Amendment → PerFile (List ℕ)
+filesAfter T F a = cond (fine (amendVerdict T (a .service) (a .block))) (editedFiles F (a .service) (a .block)) F
+
+unfoldable pub tablesAfterAll : PerFile (List ℕ) → List Amendment → PerFile (List ℕ)
+tablesAfterAll T [] = T
+tablesAfterAll T (a ∷ more) = tablesAfterAll (tablesAfter T a) more
+
+unfoldable pub filesAfterAll : PerFile (List ℕ) → PerFile (List ℕ) → List Amendment → PerFile (List ℕ)
+filesAfterAll T F [] = F
+filesAfterAll T F (a ∷ more) = filesAfterAll (tablesAfter T a) (filesAfter T F a) more
+
+-- tables are the load's of some files of bytes, without fault, into rooms of these lengths
+pub record LoadOf (R : PerFile ℕ) (T F : PerFile (List ℕ)) : Type 0 where
+  pub of-bytes : OfBytes F
+  pub fine-load : loadVerdict F R ≡ Fine
+  pub its-tables : T ≡ perFile (λ f. loadTable f F R)
+
+abbrev InBlockBytes : Amendment → Type 0
+InBlockBytes a = EachByte 256 (a .block)
+
+module _ (R : PerFile ℕ) where
+  -- one amendment of the tables of a load
+  one-of-load : (F : PerFile (List ℕ)) → OfBytes F → loadVerdict F R ≡ Fine → (s : ℕ) (b : List ℕ) → EachByte 256 b
+      → let T = perFile (λ f. loadTable f F R) in
+      LoadOf R (withTimetbls T (amendTimetbls T s b)) (cond (fine (amendVerdict T s b)) (editedFiles F s b) F)
+  one-of-load F p e s b q = go (amendVerdict T s b) refl
+    where
+      T : PerFile (List ℕ)
+      T = perFile (λ f. loadTable f F R)
+
+      go : (v : Verdict) → amendVerdict T s b ≡ v → LoadOf R (withTimetbls T (amendTimetbls T s b)) (cond (fine v) (editedFiles F s b) F)
+      go Fine a =
+          let w = accepted-was T s b a in
+          let h = sym (held-same F R p e s) ∙ w .held in
+          record {
+            of-bytes = edited-bytes F R p e s b (w .one-block) h q;
+            fine-load = still-fine F R p e s b (w .one-block) h a;
+            its-tables = sym (same-tables F R p e s b (w .one-block) h a);
+          }
+      go (Fault r x) a =
+          record {
+            of-bytes = p;
+            fine-load = e;
+            its-tables = ap (withTimetbls T) (refused-stays T s b (ap fine a));
+          }
+
+  pub one-after : (T F : PerFile (List ℕ)) (a : Amendment) → InBlockBytes a → LoadOf R T F → LoadOf R (tablesAfter T a) (filesAfter T F a)
+  one-after T F a q l =
+      subst (λ (U : PerFile (List ℕ)). LoadOf R (tablesAfter U a) (filesAfter U F a)) (sym (l .its-tables))
+      (one-of-load F (l .of-bytes) (l .fine-load) (a .service) (a .block) q)
+
+  -- THE LAW
+  pub all-after : (T F : PerFile (List ℕ)) (more : List Amendment) → Each InBlockBytes more → LoadOf R T F
+      → LoadOf R (tablesAfterAll T more) (filesAfterAll T F more)
+  unfolding tablesAfterAll filesAfterAll
+  all-after T F [] u l = l
+  all-after T F (a ∷ more) u l = all-after (tablesAfter T a) (filesAfter T F a) more (u .1) (one-after T F a (u .0) l)
