@@ -22,7 +22,7 @@ use Rattle.iff_desk.specs.Amend.{tableBlocks, placeOf, editedLength, editedLine
 use Rattle.tables.proofs.Each.{Each}
 use Rattle.tables.proofs.Rows.{Used, table-rows-used}
 use Rattle.tables.proofs.Widths.{widths}
-use Rattle.tables.proofs.Filled.{rows-in-fill}
+use Rattle.tables.proofs.Filled.{rows-in-fill, length-fill}
 use Rattle.amend_laws.proofs.NewBlock.{OneBlock, one-block, newBlock, row-names, rows-in-use}
 use Rattle.amend_laws.proofs.AmendedRows.{serviceIn, place-inside, place-names, amended-keys, amended-each, amended-length}
 
@@ -109,3 +109,7 @@ module _ (T : PerFile (List ℕ)) (s : ℕ) (b : List ℕ) where
     pub keys-are : keysOf Timetbls rows ≡ keysOf Timetbls rs
     keys-are =
         amended-keys (c .form) k rs b (a .is-one .opens) (newBlock (c .form) b) (place-inside s rs (a .is-named)) same-service
+
+    -- as long as it was
+    pub same-length : length (amendTimetbls T s b) ≡ length (T .timetbls)
+    same-length = ap length table-is ∙ length-fill (rowWidth Timetbls) (length (T .timetbls)) rows used fits

@@ -18,7 +18,8 @@ use Rattle.iff_desk.specs.Amend.{tableBlocks, amendVerdict, amendTimetbls}
 use Rattle.amend_laws.proofs.GroupLists.{replaced}
 use Rattle.amend_laws.proofs.NewBlock.{newBlock}
 use Rattle.amend_laws.proofs.AmendedRows.{serviceIn, place-inside, place-names, amended-blocks, amended-front}
-use Rattle.amend_laws.proofs.Accepted.{fine-is, contextIn, rowsWere, placeIn, rowsAfter, Accepted, accepted, same-service, rows-are, keys-are}
+use Rattle.amend_laws.proofs.Accepted.{fine-is, contextIn, rowsWere, placeIn, rowsAfter, Accepted, accepted, same-service}
+use Rattle.amend_laws.proofs.Accepted.{rows-are, keys-are, same-length}
 
 -- ENTRIES KEPT: those of two lists, and where one that is not kept replaces another
 module _ {A : Type 0} (p : A → Bool) where
@@ -52,7 +53,8 @@ module _ (T : PerFile (List ℕ)) (s : ℕ) (b : List ℕ) where
   new = newBlock (contextIn T .form) b
 
   pub record OthersKept : Type 0 where
-    -- the rows are those of the definition
+    -- the table is as long, and its rows are those of the definition
+    pub long : length (amendTimetbls T s b) ≡ length (T .timetbls)
     pub rows : rowsNow ≡ rowsAfter T s b
     -- the service's place is there, and the new block names it too
     pub inside : placeIn T s < length blocksWere
@@ -94,6 +96,7 @@ module _ (T : PerFile (List ℕ)) (s : ℕ) (b : List ℕ) where
     faultless-keeps : OthersKept
     faultless-keeps =
         record {
+          long = same-length T s b e;
           rows = rows-are T s b e;
           inside = place-is-inside;
           was-its-own = old-names;
