@@ -82,4 +82,4 @@ module _ (T : PerFile (List ℕ)) (s : ℕ) (b : List ℕ) (bytes : EachByte 256
 -- THE LAW
 pub amended-is-sound : (T : PerFile (List ℕ)) (s : ℕ) (b : List ℕ) → EachByte 256 b → fine (amendVerdict T s b) ≡ true
     → sound (withTimetbls T (amendTimetbls T s b)) ≡ true
-amended-is-sound T s b bytes e = faultless-sound T s b bytes (fine-is _ e)
+amended-is-sound T s b bytes e = faultless-sound T s b bytes (fine-is (amendVerdict T s b) e)

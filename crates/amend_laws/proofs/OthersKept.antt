@@ -109,4 +109,4 @@ module _ (T : PerFile (List ℕ)) (s : ℕ) (b : List ℕ) where
 
 -- THE LAW
 pub others-kept : (T : PerFile (List ℕ)) (s : ℕ) (b : List ℕ) → fine (amendVerdict T s b) ≡ true → OthersKept T s b
-others-kept T s b e = faultless-keeps T s b (fine-is _ e)
+others-kept T s b e = faultless-keeps T s b (fine-is (amendVerdict T s b) e)
