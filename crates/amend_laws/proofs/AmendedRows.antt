@@ -1,6 +1,6 @@
 -- THE ROWS OF AN AMENDED TABLE, over any rows: their blocks are those of before with the one replaced, nothing else has moved, the services are
 -- the same in the same order, each row is in use, and there are as many as lines. Assumes nothing.
-use Prim.Native.Nat.{ℕ, suc, _+_, _<_, _≤_}
+use Prim.Native.Nat.{ℕ, suc, _+_, _<_}
 use mathlib.Core.Path.{_≡_, refl, ap, sym, _∙_}
 use mathlib.Core.List.{List, [], _∷_, _++_, map, map-map, append-assoc}
 use mathlib.Core.Bool.{Bool, true, false, _||_}
@@ -9,19 +9,19 @@ use lib.Dec.{eqb}
 use lib.ListN.{length, getD, take, drop, length-append}
 use lib.Seq.{map-set-same}
 use borrow.Author.Tests.{eqb-true, eqb-false}
-use Rattle.iff.specs.Lists.{Group, front, groups, members, flat, any, has, kept, position, total}
-use Rattle.iff.specs.Lines.{Line, lines, isHash}
-use Rattle.iff.specs.Tables.{Row, isHashRow, rowWidth, keysOf}
+use Rattle.iff.specs.Lists.{Group, front, members, flat, any, has}
+use Rattle.iff.specs.Lines.{lines, isHash}
+use Rattle.iff.specs.Tables.{Row, isHashRow, keysOf}
 use Rattle.iff.specs.Words.{named}
 use Rattle.iff.specs.declared.File.the-variants.{Timetbls}
 use Rattle.iff.specs.declared.Form.{Form}
-use Rattle.iff_rules.specs.Rows.{blockRowsFrom, blockRows, stopsIn, linesIn, asBlock}
+use Rattle.iff_rules.specs.Rows.{blockRows, stopsIn, linesIn, asBlock}
 use Rattle.iff_desk.specs.Amend.{tableBlocks, placeOf, rowsBefore, rowsBehind, editedLines, amendedRows}
 use Rattle.tables.proofs.Each.{Each, each-append}
-use Rattle.tables.proofs.Rows.{Used}
 use Rattle.block_rows.proofs.RowLaws.{rows-count}
 use Rattle.sound_laws.proofs.PassLaws.{Opens, groups-open, none-in-front, each-front, each-group}
-use Rattle.amend_laws.proofs.GroupLists.{each-take, each-drop, each-flat, replaced, replaced-set, openers-kept, groups-replaced, front-replaced, position-inside, position-passes}
+use Rattle.amend_laws.proofs.GroupLists.{each-take, each-drop, each-flat, replaced, replaced-set}
+use Rattle.amend_laws.proofs.GroupLists.{openers-kept, groups-replaced, front-replaced, position-inside, position-passes}
 use Rattle.amend_laws.proofs.NewBlock.{newBlock, rows-are, rows-open}
 
 -- THE SERVICES of a table, in their order, are its blocks' numbers

@@ -5,7 +5,7 @@ use mathlib.Core.Path.{_≡_, refl, ap, sym, _∙_}
 use mathlib.Core.List.{List, [], _∷_, _++_}
 use mathlib.Core.Bool.{Bool, true, false, false≢true}
 use native.Mathlib.Omega.{arith}
-use lib.Dec.{eqb, leb}
+use lib.Dec.{eqb}
 use lib.ListN.{length, getD, take, drop}
 use borrow.Author.Tests.{le-leb}
 use Rattle.iff.specs.Bytes.{hash}
@@ -17,9 +17,9 @@ use Rattle.iff.specs.declared.File.{File}
 use Rattle.iff.specs.declared.File.the-variants.{Timetbls}
 use Rattle.iff_rules.specs.Rows.{blockRows, asBlock, Context}
 use Rattle.iff_laws.specs.TruthLaws.{both, and-both}
-use Rattle.iff_desk.specs.Sound.{distinct, empty, soundFirst, soundBlock, soundTimetbls, soundLater, soundRows, rowSize, firstSize}
-use Rattle.iff_desk.specs.Amend.{tableBlocks, rowsBefore, rowsBehind, editedLength, amendedRows}
-use Rattle.tables.proofs.Each.{Each, each-append}
+use Rattle.iff_desk.specs.Sound.{distinct, empty, soundFirst, soundBlock, soundTimetbls, soundRows, rowSize, firstSize}
+use Rattle.iff_desk.specs.Amend.{tableBlocks, rowsBefore, editedLength, amendedRows}
+use Rattle.tables.proofs.Each.{each-append}
 use Rattle.block_rows.proofs.RowLaws.{key-skips}
 use Rattle.sound_laws.proofs.PassLaws.{all-hold, Opens, groups-open, total-append}
 use Rattle.sound_facts.proofs.RowFacts.{first-row, first-at, later-once, later-rows}

@@ -1,10 +1,10 @@
 -- LAW: AN AMENDMENT IS A LOAD OF THE EDITED TEXT. Of a delivery that was accepted, and a service that its tables hold: the amendment of the tables
 -- answers what a load of the edited text answers, the same number at the same place or the same days and services; and where it is accepted, its
 -- tables are that load's. Over the definitions alone; it assumes that the files' bytes are bytes, and nothing else.
-use Prim.Native.Nat.{ℕ, suc, _+_, _<_}
+use Prim.Native.Nat.{ℕ, suc}
 use mathlib.Core.Path.{_≡_, refl, ap, sym, subst, _∙_}
 use mathlib.Core.List.{List, [], _∷_}
-use mathlib.Core.Bool.{Bool, true, false, cond, false≢true}
+use mathlib.Core.Bool.{Bool, true, cond}
 use lib.ListN.{length, take, replicate}
 use Rattle.iff.specs.Lists.{has}
 use Rattle.iff.specs.Files.{PerFile, of, perFile}
@@ -21,12 +21,11 @@ use Rattle.iff.specs.declared.Form.{Form}
 use Rattle.iff.specs.declared.Reason.the-variants.{NotOneBlock, NoService, NotSound}
 use Rattle.iff.specs.declared.Place.the-variants.{Nowhere}
 use Rattle.iff.specs.declared.Verdict.{Verdict}
-use Rattle.iff.specs.declared.Verdict.the-variants.{Fine, Fault}
-use Rattle.iff.specs.declared.Answer.{Answer}
+use Rattle.iff.specs.declared.Verdict.the-variants.{Fine}
 use Rattle.iff_rules.specs.Rows.{asBlock, rowsOfLines, rowsOfFiles, deliveryRows, formOf, firstOf, Context, contextOf}
 use Rattle.iff_rules.specs.References.{names}
 use Rattle.iff_rules.specs.Load.{faultUnless, lengthVerdict, roomVerdict, blockVerdict, headerOf, fileVerdict, loadVerdict, loadAnswer, filled, loadTable}
-use Rattle.iff_desk.specs.Sound.{rowsOfTables, sound}
+use Rattle.iff_desk.specs.Sound.{rowsOfTables}
 use Rattle.iff_desk.specs.Parts.{isOneBlock}
 use Rattle.iff_desk.specs.Amend.{placeOf, editedLength, editedLines, amendVerdict, amendAnswer, amendedRows, amendTimetbls, edited}
 use Rattle.text.proofs.PackLaws.{Each as EachByte}

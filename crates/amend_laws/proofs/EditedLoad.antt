@@ -3,30 +3,24 @@
 use Prim.Native.Nat.{ℕ, _<_}
 use mathlib.Core.Path.{_≡_, refl, ap, sym, _∙_}
 use mathlib.Core.List.{List, [], _∷_, map}
-use mathlib.Core.Bool.{Bool, true, cond}
+use mathlib.Core.Bool.{cond}
 use native.Mathlib.Omega.{arith}
 use lib.ListN.{length, replicate}
 use borrow.Author.Tests.{lt-ltb}
 use Rattle.iff.specs.Files.{PerFile, of, perFile, eleven, inOrder}
-use Rattle.iff.specs.Refusals.{verdictAt, unless, firstFault, fine}
+use Rattle.iff.specs.Refusals.{firstFault, fine}
 use Rattle.iff.specs.Lines.{lines}
 use Rattle.iff.specs.Tables.{Row, keysOf}
-use Rattle.iff.specs.declared.RowFile.{RowFile}
 use Rattle.iff.specs.declared.RowFile.the-variants.{Company, Country, Trnsmode, Stations}
-use Rattle.iff.specs.declared.GroupFile.{GroupFile}
 use Rattle.iff.specs.declared.GroupFile.the-variants.{Timezone, Footnote, Changes, Xfootnote, Xchanges}
 use Rattle.iff.specs.declared.File.{File}
 use Rattle.iff.specs.declared.File.the-variants.{Delivery, Rows, Groups, Timetbls}
-use Rattle.iff.specs.declared.Form.{Form}
-use Rattle.iff.specs.declared.Reason.the-variants.{Absent}
-use Rattle.iff.specs.declared.Place.the-variants.{At}
-use Rattle.iff.specs.declared.Verdict.{Verdict}
 use Rattle.iff.specs.declared.Verdict.the-variants.{Fine}
 use Rattle.iff_rules.specs.Rows.{rowsOfLines, rowsOfFiles, deliveryRows, formOf, firstOf, Context, contextOf}
-use Rattle.iff_rules.specs.Load.{lengthVerdict, present, presentIn, absenceVerdict, roomVerdict, overFiles, headerOf, readFile, fileVerdict, deliveryVerdict, companyVerdict, contentsVerdict, loadVerdict, filled, loadTable}
+use Rattle.iff_rules.specs.Load.{lengthVerdict, presentIn, absenceVerdict, roomVerdict, overFiles, headerOf, readFile, fileVerdict, deliveryVerdict, companyVerdict, contentsVerdict, loadVerdict, filled, loadTable}
 use Rattle.iff_laws.specs.ScanLaws.{no-fault-all}
 use Rattle.amend_laws.proofs.OtherTables.{withTimetbls, same-context}
-use Rattle.amend_laws.proofs.EditedVerdicts.{lone-fault, past-fine}
+use Rattle.amend_laws.proofs.EditedVerdicts.{lone-fault}
 
 module _ (F : PerFile (List ℕ)) (R : PerFile ℕ) (e : loadVerdict F R ≡ Fine) (t : List ℕ) where
   abbrev D : PerFile (List Row)

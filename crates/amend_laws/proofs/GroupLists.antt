@@ -53,7 +53,7 @@ module _ {A : Type 0} where
   flat-append [] gs = refl
   flat-append (f ∷ fs) gs = rw (flat-append fs gs, append-assoc)
 
-  -- all but the first
+  -- the first, and the others
   pub flat-cons : (g : Group A) (gs : List (Group A)) → flat (g ∷ gs) ≡ members g ++ flat gs
   unfolding flat
   flat-cons g gs = refl

@@ -3,6 +3,9 @@ pub mod NewBlock
 pub mod AmendedRows
 pub mod AmendedTimetbls
 pub mod OtherTables
+pub mod Accepted
+pub mod AmendedSound
+pub mod OthersKept
 pub mod EditedText
 pub mod EditedVerdicts
 pub mod EditedBlocks

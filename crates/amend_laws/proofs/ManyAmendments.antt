@@ -3,20 +3,23 @@
 use Prim.Native.Nat.{ℕ}
 use mathlib.Core.Path.{_≡_, refl, ap, sym, subst, _∙_}
 use mathlib.Core.List.{List, [], _∷_}
-use mathlib.Core.Bool.{Bool, true, false, cond, false≢true}
+use mathlib.Core.Bool.{true, false, cond}
 use Rattle.iff.specs.Files.{PerFile, perFile}
-use Rattle.iff.specs.Refusals.{firstFault, fine}
+use Rattle.iff.specs.Refusals.{fine, answer}
 use Rattle.iff.specs.Lines.{lines}
 use Rattle.iff.specs.declared.File.the-variants.{Timetbls}
+use Rattle.iff.specs.declared.Reason.{Reason}
+use Rattle.iff.specs.declared.Place.{Place}
 use Rattle.iff.specs.declared.Verdict.{Verdict}
 use Rattle.iff.specs.declared.Verdict.the-variants.{Fine, Fault}
+use Rattle.iff.specs.declared.Answer.the-variants.{Refused}
 use Rattle.iff_rules.specs.Rows.{contextOf}
 use Rattle.iff_rules.specs.References.{names}
 use Rattle.iff_rules.specs.Load.{loadVerdict, loadTable}
 use Rattle.iff_laws.specs.ScanLaws.{no-fault-all, unless-passes, verdict-fine}
-use Rattle.iff_desk.specs.Sound.{rowsOfTables, sound}
+use Rattle.iff_desk.specs.Sound.{rowsOfTables}
 use Rattle.iff_desk.specs.Parts.{isOneBlock}
-use Rattle.iff_desk.specs.Amend.{amendVerdict, amendTimetbls}
+use Rattle.iff_desk.specs.Amend.{amendVerdict, amendAnswer, amendTimetbls}
 use Rattle.text.proofs.PackLaws.{Each as EachByte}
 use Rattle.tables.proofs.Each.{Each}
 use native.Mathlib.Omega.{arith}
@@ -24,26 +27,28 @@ use Rattle.sound_laws.proofs.SoundLaws.{OfBytes}
 use Rattle.amend_laws.proofs.OtherTables.{withTimetbls}
 use Rattle.amend_laws.proofs.DemandThree.{editedFiles, held-same, still-fine, same-tables, edited-bytes}
 
--- WHAT AN AMENDMENT LEAVES
--- "a refused amendment leaves every table as it stood"
-pub refused-stays : (T : PerFile (List ℕ)) (s : ℕ) (b : List ℕ) → fine (amendVerdict T s b) ≡ false → amendTimetbls T s b ≡ T .timetbls
+-- WHAT AN AMENDMENT LEAVES: a refused one every table as it stood
+fault-stays : (T : PerFile (List ℕ)) (s : ℕ) (b : List ℕ) → fine (amendVerdict T s b) ≡ false → withTimetbls T (amendTimetbls T s b) ≡ T
 unfolding amendTimetbls
-refused-stays T s b e = rw e
+fault-stays T s b e = rw e
 
--- an accepted one was one block of a service that is held, of sound tables
-pub record Accepted (T : PerFile (List ℕ)) (s : ℕ) (b : List ℕ) : Type 0 where
-  pub of-sound : sound T ≡ true
-  pub one-block : isOneBlock s (lines b) ≡ true
-  pub held : names (contextOf (rowsOfTables T)) Timetbls s ≡ true
+pub refused-stays : (T : PerFile (List ℕ)) (s : ℕ) (b : List ℕ) (r : Reason) (p : Place) → amendAnswer T s b ≡ Refused r p
+    → withTimetbls T (amendTimetbls T s b) ≡ T
+unfolding amendAnswer
+refused-stays T s b r p e = fault-stays T s b (go (amendVerdict T s b) _ _ e)
+  where
+    go : (v : Verdict) (days services : ℕ) → answer v days services ≡ Refused r p → fine v ≡ false
+    go Fine days services e = absurd (let z : _≡_ {A = ℕ} 0 1 = cc in omega arith)
+    go (Fault r p) days services e = refl
 
-pub accepted-was : (T : PerFile (List ℕ)) (s : ℕ) (b : List ℕ) → amendVerdict T s b ≡ Fine → Accepted T s b
+-- an accepted one was one block of a service that is held
+pub accepted-asked : (T : PerFile (List ℕ)) (s : ℕ) (b : List ℕ) → amendVerdict T s b ≡ Fine
+    → (isOneBlock s (lines b) ≡ true) × (names (contextOf (rowsOfTables T)) Timetbls s ≡ true)
 unfolding amendVerdict
-accepted-was T s b e =
-    record {
-      of-sound = unless-passes _ _ (verdict-fine _ _ (no-fault-all _ e 0 (omega arith)));
-      one-block = unless-passes _ _ (verdict-fine _ _ (no-fault-all _ e 1 (omega arith)));
-      held = unless-passes _ _ (verdict-fine _ _ (no-fault-all _ e 2 (omega arith)));
-    }
+accepted-asked T s b e = (
+  unless-passes _ _ (verdict-fine _ _ (no-fault-all _ e 1 (omega arith))),
+  unless-passes _ _ (verdict-fine _ _ (no-fault-all _ e 2 (omega arith))),
+)
 
 -- ONE AFTER THE OTHER: the tables after some, and the files that they stand for
 pub record Amendment : Type 0 where
@@ -85,18 +90,18 @@ module _ (R : PerFile ℕ) where
 
       go : (v : Verdict) → amendVerdict T s b ≡ v → LoadOf R (withTimetbls T (amendTimetbls T s b)) (cond (fine v) (editedFiles F s b) F)
       go Fine a =
-          let w = accepted-was T s b a in
-          let h = sym (held-same F R p e s) ∙ w .held in
+          let w = accepted-asked T s b a in
+          let h = sym (held-same F R p e s) ∙ w .1 in
           record {
-            of-bytes = edited-bytes F R p e s b (w .one-block) h q;
-            fine-load = still-fine F R p e s b (w .one-block) h a;
-            its-tables = sym (same-tables F R p e s b (w .one-block) h a);
+            of-bytes = edited-bytes F R p e s b (w .0) h q;
+            fine-load = still-fine F R p e s b (w .0) h a;
+            its-tables = sym (same-tables F R p e s b (w .0) h a);
           }
       go (Fault r x) a =
           record {
             of-bytes = p;
             fine-load = e;
-            its-tables = ap (withTimetbls T) (refused-stays T s b (ap fine a));
+            its-tables = fault-stays T s b (ap fine a);
           }
 
   pub one-after : (T F : PerFile (List ℕ)) (a : Amendment) → InBlockBytes a → LoadOf R T F → LoadOf R (tablesAfter T a) (filesAfter T F a)

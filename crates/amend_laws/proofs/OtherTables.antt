@@ -72,7 +72,8 @@ tableBy c there d f rs t =
     allOf (cond (needed there f) (there f) true ∷ soundRows c d f rs ∷ allZero (drop (length rs * rowWidth f) t) ∷ [])
 
 -- ELEVEN SOUND TABLES, and another TIMETBLS of sound rows with the same services
-module _ (T : PerFile (List ℕ)) (t : List ℕ) (was : sound T ≡ true) (keys : keysOf Timetbls (rowsIn Timetbls t) ≡ keysOf Timetbls (rowsIn Timetbls (T .timetbls)))
+module _ (T : PerFile (List ℕ)) (t : List ℕ) (was : sound T ≡ true)
+    (keys : keysOf Timetbls (rowsIn Timetbls t) ≡ keysOf Timetbls (rowsIn Timetbls (T .timetbls)))
     (some : 0 < length (rowsIn Timetbls t)) where
   abbrev R : PerFile (List Row)
   R = rowsOfTables T
