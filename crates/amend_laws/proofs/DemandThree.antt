@@ -32,6 +32,7 @@ use Rattle.text.proofs.PackLaws.{Each as EachByte}
 use Rattle.tables.proofs.Filled.{length-fill}
 use Rattle.sound_laws.proofs.SoundLaws.{OfBytes, own-form, timetbls-read, rows-are, used, fit, table-is, tables-rows, faultless-sound, meets}
 use Rattle.amend_laws.proofs.OtherTables.{withTimetbls}
+use Rattle.amend_laws.proofs.Accepted.{fine-is}
 use Rattle.amend_laws.proofs.EditedVerdicts.{past-fine}
 use Rattle.amend_laws.proofs.EditedFile.{Told, told, still-bytes}
 use Rattle.amend_laws.proofs.EditedLoad.{context-same, load-with, tables-with}
@@ -39,6 +40,10 @@ use Rattle.amend_laws.proofs.EditedLoad.{context-same, load-with, table
 -- the files with the edited TIMETBLS, in the delivery's own form
 abbrev pub editedFiles : PerFile (List ℕ) → ℕ → List ℕ → PerFile (List ℕ)
 editedFiles F s b = withTimetbls F (edited (contextOf (rowsOfFiles F) .form) (F .timetbls) s b)
+
+-- the tables that a load leaves
+abbrev pub loaded : PerFile (List ℕ) → PerFile ℕ → PerFile (List ℕ)
+loaded F R = perFile (λ f. loadTable f F R)
 
 -- an amendment's verdict, of tables with some rows, sound or not, and room for so many words
 abbrev verdictOf : PerFile (List Row) → Bool → ℕ → ℕ → List ℕ → Verdict
@@ -66,7 +71,7 @@ module _ (F : PerFile (List ℕ)) (R : PerFile ℕ) (bytes : OfBytes F) (e : loa
   form = formOf (firstOf (deliveryRows (F .delivery)))
 
   abbrev T : PerFile (List ℕ)
-  T = perFile (λ f. loadTable f F R)
+  T = loaded F R
 
   room-same : length (T .timetbls) ≡ R .timetbls
   room-same =
@@ -121,13 +126,13 @@ module _ (F : PerFile (List ℕ)) (R : PerFile ℕ) (bytes : OfBytes F) (e : loa
         ∙ past-fine (faultUnless (names c Timetbls s) NoService Nowhere) _ (ap (λ (q : Bool). faultUnless q NoService Nowhere) held)
         ∙ (λ i. firstFault (lengthVerdict Timetbls (tells .long i) ∷ roomVerdict Timetbls (tells .many i) (R .timetbls) ∷ judged i ∷ []))
 
-    pub same-verdict : amendVerdict T s b ≡ loadVerdict (editedFiles F s b) R
+    same-verdict : amendVerdict T s b ≡ loadVerdict (editedFiles F s b) R
     same-verdict = amend-with ∙ sym (load-with F R e t services (tells .there))
 
-    -- THE LAW: the answer
-    pub demand-three : amendAnswer T s b ≡ loadAnswer (editedFiles F s b) R
+    -- the answer
+    same-answer : amendAnswer T s b ≡ loadAnswer (editedFiles F s b) R
     unfolding amendAnswer loadAnswer
-    demand-three =
+    same-answer =
         let q : contextOf (rowsOfTables T) ≡ contextOf (rowsOfFiles (editedFiles F s b)) =
         ap contextOf (tables-rows F R bytes e) ∙ sym (context-same F R e t services) in
         λ i. answer (same-verdict i) (q i .form .days) (length (q i .keys Timetbls))
@@ -149,7 +154,7 @@ module _ (F : PerFile (List ℕ)) (R : PerFile ℕ) (bytes : OfBytes F) (e : loa
           amended-by : PerFile (List Row) → List Row
           amended-by r = amendedRows (contextOf r .form) (placeOf s (r .timetbls)) (r .timetbls) b
 
-      pub same-tables : perFile (λ f. loadTable f (editedFiles F s b) R) ≡ withTimetbls T (amendTimetbls T s b)
+      pub same-tables : loaded (editedFiles F s b) R ≡ withTimetbls T (amendTimetbls T s b)
       same-tables = tables-with F R e t still-fine ∙ ap (withTimetbls T) table-same
 
     pub edited-bytes : EachByte 256 b → OfBytes (editedFiles F s b)
@@ -175,3 +180,22 @@ module _ (F : PerFile (List ℕ)) (R : PerFile ℕ) (bytes : OfBytes F) (e : loa
         by-file Timetbls =
             still-bytes c (headerOf F) (F .timetbls) (bytes .below Timetbls) (meets F R bytes e .there Timetbls refl) (timetbls-read F R bytes e) s b one
             held-in-lines p
+
+-- THE LAW
+pub record AsLoad (F : PerFile (List ℕ)) (R : PerFile ℕ) (s : ℕ) (b : List ℕ) : Type 0 where
+  -- the same number at the same place, or the same days and services
+  pub answers : amendAnswer (loaded F R) s b ≡ loadAnswer (editedFiles F s b) R
+  -- where it is accepted, the same eleven tables
+  pub tables : fine (amendVerdict (loaded F R) s b) ≡ true
+      → withTimetbls (loaded F R) (amendTimetbls (loaded F R) s b) ≡ loaded (editedFiles F s b) R
+
+pub demand-three : (F : PerFile (List ℕ)) (R : PerFile ℕ) → OfBytes F → fine (loadVerdict F R) ≡ true → (s : ℕ) (b : List ℕ)
+    → isOneBlock s (lines b) ≡ true
+    → names (contextOf (rowsOfFiles F)) Timetbls s ≡ true
+    → AsLoad F R s b
+demand-three F R bytes a s b one held =
+    let e = fine-is (loadVerdict F R) a in
+    record {
+      answers = same-answer F R bytes e s b one held;
+      tables = λ q. sym (same-tables F R bytes e s b one held (fine-is (amendVerdict (loaded F R) s b) q));
+    }

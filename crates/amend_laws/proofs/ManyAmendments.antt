@@ -4,7 +4,7 @@ use Prim.Native.Nat.{ℕ}
 use mathlib.Core.Path.{_≡_, refl, ap, sym, subst, _∙_}
 use mathlib.Core.List.{List, [], _∷_}
 use mathlib.Core.Bool.{true, false, cond}
-use Rattle.iff.specs.Files.{PerFile, perFile}
+use Rattle.iff.specs.Files.{PerFile}
 use Rattle.iff.specs.Refusals.{fine, answer}
 use Rattle.iff.specs.Lines.{lines}
 use Rattle.iff.specs.declared.File.the-variants.{Timetbls}
@@ -15,7 +15,7 @@ use Rattle.iff.specs.declared.Verdict.the-variants.{Fine, Fault}
 use Rattle.iff.specs.declared.Answer.the-variants.{Refused}
 use Rattle.iff_rules.specs.Rows.{contextOf}
 use Rattle.iff_rules.specs.References.{names}
-use Rattle.iff_rules.specs.Load.{loadVerdict, loadTable}
+use Rattle.iff_rules.specs.Load.{loadVerdict, loadAnswer}
 use Rattle.iff_laws.specs.ScanLaws.{no-fault-all, unless-passes, verdict-fine}
 use Rattle.iff_desk.specs.Sound.{rowsOfTables}
 use Rattle.iff_desk.specs.Parts.{isOneBlock}
@@ -25,7 +25,8 @@ use Rattle.tables.proofs.Each.{Each}
 use native.Mathlib.Omega.{arith}
 use Rattle.sound_laws.proofs.SoundLaws.{OfBytes}
 use Rattle.amend_laws.proofs.OtherTables.{withTimetbls}
-use Rattle.amend_laws.proofs.DemandThree.{editedFiles, held-same, still-fine, same-tables, edited-bytes}
+use Rattle.amend_laws.proofs.Accepted.{fine-is}
+use Rattle.amend_laws.proofs.DemandThree.{editedFiles, loaded, held-same, still-fine, same-tables, edited-bytes, demand-three}
 
 -- WHAT AN AMENDMENT LEAVES: a refused one every table as it stood
 fault-stays : (T : PerFile (List ℕ)) (s : ℕ) (b : List ℕ) → fine (amendVerdict T s b) ≡ false → withTimetbls T (amendTimetbls T s b) ≡ T
@@ -73,20 +74,20 @@ filesAfterAll T F (a ∷ more) = filesAfterAll (tablesAfter T a) (filesAfter T F
 pub record LoadOf (R : PerFile ℕ) (T F : PerFile (List ℕ)) : Type 0 where
   pub of-bytes : OfBytes F
   pub fine-load : loadVerdict F R ≡ Fine
-  pub its-tables : T ≡ perFile (λ f. loadTable f F R)
+  pub its-tables : T ≡ loaded F R
 
-abbrev InBlockBytes : Amendment → Type 0
-InBlockBytes a = EachByte 256 (a .block)
+abbrev pub BlockOfBytes : Amendment → Type 0
+BlockOfBytes a = EachByte 256 (a .block)
 
 module _ (R : PerFile ℕ) where
   -- one amendment of the tables of a load
   one-of-load : (F : PerFile (List ℕ)) → OfBytes F → loadVerdict F R ≡ Fine → (s : ℕ) (b : List ℕ) → EachByte 256 b
-      → let T = perFile (λ f. loadTable f F R) in
+      → let T = loaded F R in
       LoadOf R (withTimetbls T (amendTimetbls T s b)) (cond (fine (amendVerdict T s b)) (editedFiles F s b) F)
   one-of-load F p e s b q = go (amendVerdict T s b) refl
     where
       T : PerFile (List ℕ)
-      T = perFile (λ f. loadTable f F R)
+      T = loaded F R
 
       go : (v : Verdict) → amendVerdict T s b ≡ v → LoadOf R (withTimetbls T (amendTimetbls T s b)) (cond (fine v) (editedFiles F s b) F)
       go Fine a =
@@ -104,14 +105,31 @@ module _ (R : PerFile ℕ) where
             its-tables = fault-stays T s b (ap fine a);
           }
 
-  pub one-after : (T F : PerFile (List ℕ)) (a : Amendment) → InBlockBytes a → LoadOf R T F → LoadOf R (tablesAfter T a) (filesAfter T F a)
+  one-after : (T F : PerFile (List ℕ)) (a : Amendment) → BlockOfBytes a → LoadOf R T F → LoadOf R (tablesAfter T a) (filesAfter T F a)
   one-after T F a q l =
       subst (λ (U : PerFile (List ℕ)). LoadOf R (tablesAfter U a) (filesAfter U F a)) (sym (l .its-tables))
       (one-of-load F (l .of-bytes) (l .fine-load) (a .service) (a .block) q)
 
-  -- THE LAW
-  pub all-after : (T F : PerFile (List ℕ)) (more : List Amendment) → Each InBlockBytes more → LoadOf R T F
+  after-more : (T F : PerFile (List ℕ)) (more : List Amendment) → Each BlockOfBytes more → LoadOf R T F
       → LoadOf R (tablesAfterAll T more) (filesAfterAll T F more)
   unfolding tablesAfterAll filesAfterAll
-  all-after T F [] u l = l
-  all-after T F (a ∷ more) u l = all-after (tablesAfter T a) (filesAfter T F a) more (u .1) (one-after T F a (u .0) l)
+  after-more T F [] u l = l
+  after-more T F (a ∷ more) u l = after-more (tablesAfter T a) (filesAfter T F a) more (u .1) (one-after T F a (u .0) l)
+
+-- THE LAW
+pub after-all : (F : PerFile (List ℕ)) (R : PerFile ℕ) → OfBytes F → fine (loadVerdict F R) ≡ true
+    → (more : List Amendment) → Each BlockOfBytes more
+    → LoadOf R (tablesAfterAll (loaded F R) more) (filesAfterAll (loaded F R) F more)
+after-all F R bytes a more u =
+    after-more R (loaded F R) F more u (record { of-bytes = bytes; fine-load = fine-is (loadVerdict F R) a; its-tables = refl })
+
+-- so the next one, too, is a load of the edited text
+pub next-as-load : (R : PerFile ℕ) (T F : PerFile (List ℕ)) → LoadOf R T F → (s : ℕ) (b : List ℕ)
+    → isOneBlock s (lines b) ≡ true
+    → names (contextOf (rowsOfTables T)) Timetbls s ≡ true
+    → amendAnswer T s b ≡ loadAnswer (editedFiles F s b) R
+next-as-load R T F l s b one held =
+    let h : names (contextOf (rowsOfTables (loaded F R))) Timetbls s ≡ true =
+    subst (λ (U : PerFile (List ℕ)). names (contextOf (rowsOfTables U)) Timetbls s ≡ true) (l .its-tables) held in
+    ap (λ (U : PerFile (List ℕ)). amendAnswer U s b) (l .its-tables)
+    ∙ demand-three F R (l .of-bytes) (ap fine (l .fine-load)) s b one (sym (held-same F R (l .of-bytes) (l .fine-load) s) ∙ h) .answers
