@@ -3,7 +3,7 @@
 use Prim.Native.Nat.{ℕ}
 use mathlib.Core.Path.{_≡_, refl, ap, sym, subst, _∙_}
 use mathlib.Core.List.{List, [], _∷_}
-use mathlib.Core.Bool.{true, false, cond}
+use mathlib.Core.Bool.{Bool, true, false}
 use Rattle.iff.specs.Files.{PerFile}
 use Rattle.iff.specs.Refusals.{fine, answer}
 use Rattle.iff.specs.Lines.{lines}
@@ -59,8 +59,13 @@ pub record Amendment : Type 0 where
 abbrev pub tablesAfter : PerFile (List ℕ) → Amendment → PerFile (List ℕ)
 tablesAfter T a = withTimetbls T (amendTimetbls T (a .service) (a .block))
 
+-- edited where it is accepted, as they were where it is refused
+abbrev pub filesWhere : Bool → PerFile (List ℕ) → Amendment → PerFile (List ℕ)
+filesWhere true F a = editedFiles F (a .service) (a .block)
+filesWhere false F a = F
+
 abbrev pub filesAfter : PerFile (List ℕ) → PerFile (List ℕ) → Amendment → PerFile (List ℕ)
-filesAfter T F a = cond (fine (amendVerdict T (a .service) (a .block))) (editedFiles F (a .service) (a .block)) F
+filesAfter T F a = filesWhere (fine (amendVerdict T (a .service) (a .block))) F a
 
 unfoldable pub tablesAfterAll : PerFile (List ℕ) → List Amendment → PerFile (List ℕ)
 tablesAfterAll T [] = T
@@ -81,34 +86,25 @@ BlockOfBytes a = EachByte 256 (a .block)
 
 module _ (R : PerFile ℕ) where
   -- one amendment of the tables of a load
-  one-of-load : (F : PerFile (List ℕ)) → OfBytes F → loadVerdict F R ≡ Fine → (s : ℕ) (b : List ℕ) → EachByte 256 b
-      → let T = loaded F R in
-      LoadOf R (withTimetbls T (amendTimetbls T s b)) (cond (fine (amendVerdict T s b)) (editedFiles F s b) F)
-  one-of-load F p e s b q = go (amendVerdict T s b) refl
+  one-of-load : (F : PerFile (List ℕ)) → OfBytes F → loadVerdict F R ≡ Fine → (a : Amendment) → BlockOfBytes a
+      → LoadOf R (tablesAfter (loaded F R) a) (filesAfter (loaded F R) F a)
+  one-of-load F p e a q = go (amendVerdict (loaded F R) (a .service) (a .block)) refl
     where
-      T : PerFile (List ℕ)
-      T = loaded F R
-
-      go : (v : Verdict) → amendVerdict T s b ≡ v → LoadOf R (withTimetbls T (amendTimetbls T s b)) (cond (fine v) (editedFiles F s b) F)
-      go Fine a =
-          let w = accepted-asked T s b a in
-          let h = sym (held-same F R p e s) ∙ w .1 in
+      go : (v : Verdict) → amendVerdict (loaded F R) (a .service) (a .block) ≡ v → LoadOf R (tablesAfter (loaded F R) a) (filesWhere (fine v) F a)
+      go Fine z =
+          let w = accepted-asked (loaded F R) (a .service) (a .block) z in
+          let h = sym (held-same F R p e (a .service)) ∙ w .1 in
           record {
-            of-bytes = edited-bytes F R p e s b (w .0) h q;
-            fine-load = still-fine F R p e s b (w .0) h a;
-            its-tables = sym (same-tables F R p e s b (w .0) h a);
+            of-bytes = edited-bytes F R p e (a .service) (a .block) (w .0) h q;
+            fine-load = still-fine F R p e (a .service) (a .block) (w .0) h z;
+            its-tables = sym (same-tables F R p e (a .service) (a .block) (w .0) h z);
           }
-      go (Fault r x) a =
-          record {
-            of-bytes = p;
-            fine-load = e;
-            its-tables = fault-stays T s b (ap fine a);
-          }
+      go (Fault r x) z = record { of-bytes = p; fine-load = e; its-tables = fault-stays (loaded F R) (a .service) (a .block) (ap fine z) }
 
   one-after : (T F : PerFile (List ℕ)) (a : Amendment) → BlockOfBytes a → LoadOf R T F → LoadOf R (tablesAfter T a) (filesAfter T F a)
   one-after T F a q l =
       subst (λ (U : PerFile (List ℕ)). LoadOf R (tablesAfter U a) (filesAfter U F a)) (sym (l .its-tables))
-      (one-of-load F (l .of-bytes) (l .fine-load) (a .service) (a .block) q)
+      (one-of-load F (l .of-bytes) (l .fine-load) a q)
 
   after-more : (T F : PerFile (List ℕ)) (more : List Amendment) → Each BlockOfBytes more → LoadOf R T F
       → LoadOf R (tablesAfterAll T more) (filesAfterAll T F more)
