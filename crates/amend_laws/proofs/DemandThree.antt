@@ -7,16 +7,11 @@ use mathlib.Core.List.{List, [], _∷_}
 use mathlib.Core.Bool.{Bool, true, cond}
 use lib.ListN.{length, take, replicate}
 use Rattle.iff.specs.Lists.{has}
-use Rattle.iff.specs.Files.{PerFile, of, perFile}
+use Rattle.iff.specs.Files.{PerFile, perFile}
 use Rattle.iff.specs.Refusals.{firstFault, fine, answer}
 use Rattle.iff.specs.Lines.{lines}
 use Rattle.iff.specs.Tables.{Row, rowWidth, fill, keysOf}
-use Rattle.iff.specs.declared.RowFile.{RowFile}
-use Rattle.iff.specs.declared.RowFile.the-variants.{Company, Country, Trnsmode, Stations}
-use Rattle.iff.specs.declared.GroupFile.{GroupFile}
-use Rattle.iff.specs.declared.GroupFile.the-variants.{Timezone, Footnote, Changes, Xfootnote, Xchanges}
-use Rattle.iff.specs.declared.File.{File}
-use Rattle.iff.specs.declared.File.the-variants.{Delivery, Rows, Groups, Timetbls}
+use Rattle.iff.specs.declared.File.the-variants.{Timetbls}
 use Rattle.iff.specs.declared.Form.{Form}
 use Rattle.iff.specs.declared.Reason.the-variants.{NotOneBlock, NoService, NotSound}
 use Rattle.iff.specs.declared.Place.the-variants.{Nowhere}
@@ -31,7 +26,7 @@ use Rattle.iff_desk.specs.Amend.{placeOf, editedLength, editedLines, amendVerdi
 use Rattle.text.proofs.PackLaws.{Each as EachByte}
 use Rattle.tables.proofs.Filled.{length-fill}
 use Rattle.sound_laws.proofs.SoundLaws.{OfBytes, own-form, timetbls-read, rows-are, used, fit, table-is, tables-rows, faultless-sound, meets}
-use Rattle.amend_laws.proofs.OtherTables.{withTimetbls}
+use Rattle.amend_laws.proofs.OtherTables.{withTimetbls, with-each}
 use Rattle.amend_laws.proofs.Accepted.{fine-is}
 use Rattle.amend_laws.proofs.EditedVerdicts.{past-fine}
 use Rattle.amend_laws.proofs.EditedFile.{Told, told, still-bytes}
@@ -157,29 +152,13 @@ module _ (F : PerFile (List ℕ)) (R : PerFile ℕ) (bytes : OfBytes F) (e : loa
       pub same-tables : loaded (editedFiles F s b) R ≡ withTimetbls T (amendTimetbls T s b)
       same-tables = tables-with F R e t still-fine ∙ ap (withTimetbls T) table-same
 
+    -- of bytes again, where the block is
     pub edited-bytes : EachByte 256 b → OfBytes (editedFiles F s b)
-    edited-bytes p = record { below = by-file }
-      where
-        by-rows : (f : RowFile) → EachByte 256 (of (editedFiles F s b) (Rows f))
-        by-rows Company = bytes .below (Rows Company)
-        by-rows Country = bytes .below (Rows Country)
-        by-rows Trnsmode = bytes .below (Rows Trnsmode)
-        by-rows Stations = bytes .below (Rows Stations)
-
-        by-groups : (f : GroupFile) → EachByte 256 (of (editedFiles F s b) (Groups f))
-        by-groups Timezone = bytes .below (Groups Timezone)
-        by-groups Footnote = bytes .below (Groups Footnote)
-        by-groups Changes = bytes .below (Groups Changes)
-        by-groups Xfootnote = bytes .below (Groups Xfootnote)
-        by-groups Xchanges = bytes .below (Groups Xchanges)
-
-        by-file : (f : File) → EachByte 256 (of (editedFiles F s b) f)
-        by-file Delivery = bytes .below Delivery
-        by-file (Rows f) = by-rows f
-        by-file (Groups f) = by-groups f
-        by-file Timetbls =
-            still-bytes c (headerOf F) (F .timetbls) (bytes .below Timetbls) (meets F R bytes e .there Timetbls refl) (timetbls-read F R bytes e) s b one
-            held-in-lines p
+    edited-bytes p =
+        let q =
+        still-bytes c (headerOf F) (F .timetbls) (bytes .below Timetbls) (meets F R bytes e .there Timetbls refl) (timetbls-read F R bytes e) s b one
+        held-in-lines p in
+        record { below = λ f. with-each F t (λ g x y. EachByte 256 y → EachByte 256 x) (λ g x r. r) (λ r. q) f (bytes .below f) }
 
 -- THE LAW
 pub record AsLoad (F : PerFile (List ℕ)) (R : PerFile ℕ) (s : ℕ) (b : List ℕ) : Type 0 where

@@ -112,13 +112,9 @@ module _ (c : Context) (header : List ℕ) (t : List ℕ) (l : Line) (ls : List 
   of-groups : (P : Line → Type 0) → Each P ls → Each (λ g. Each P (members g)) gs
   of-groups P u = each-group isHash P ls u
 
-  -- its rows
+  -- its first line's row
   abbrev r : Row
   r = firstRowOf Timetbls (rising (keysOf Timetbls (blocksRows (c .form) gs))) l
-
-  rows-are : rowsOfLines (c .form) Timetbls (l ∷ ls) ≡ r ∷ blocksRows (c .form) gs
-  unfolding rowsOfLines
-  rows-are = refl
 
   plain : isHashRow r ≡ false
   unfolding firstRowOf padded
@@ -207,6 +203,7 @@ module _ (c : Context) (header : List ℕ) (t : List ℕ) (l : Line) (ls : List 
         (groups-flat isHash hs new-opens)
         ∙ ap (λ (ks : List ℕ). firstRowOf Timetbls (rising ks) l ∷ blocksRows (c .form) hs) services-same
 
+    -- told by the rows as they were
     abbrev rs : List Row
     rs = r ∷ blocksRows (c .form) gs
 

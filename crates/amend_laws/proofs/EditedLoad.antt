@@ -2,12 +2,12 @@
 -- ask the other files for nothing new; and where it is accepted, the other ten tables are as they were. Assumes nothing.
 use Prim.Native.Nat.{ℕ, _<_}
 use mathlib.Core.Path.{_≡_, refl, ap, sym, _∙_}
-use mathlib.Core.List.{List, [], _∷_, map}
+use mathlib.Core.List.{List, [], _∷_}
 use mathlib.Core.Bool.{cond}
 use native.Mathlib.Omega.{arith}
 use lib.ListN.{length, replicate}
 use borrow.Author.Tests.{lt-ltb}
-use Rattle.iff.specs.Files.{PerFile, of, perFile, eleven, inOrder}
+use Rattle.iff.specs.Files.{PerFile, of, perFile, eleven}
 use Rattle.iff.specs.Refusals.{firstFault, fine}
 use Rattle.iff.specs.Lines.{lines}
 use Rattle.iff.specs.Tables.{Row, keysOf}
@@ -17,7 +17,7 @@ use Rattle.iff.specs.declared.File.{File}
 use Rattle.iff.specs.declared.File.the-variants.{Delivery, Rows, Groups, Timetbls}
 use Rattle.iff.specs.declared.Verdict.the-variants.{Fine}
 use Rattle.iff_rules.specs.Rows.{rowsOfLines, rowsOfFiles, deliveryRows, formOf, firstOf, Context, contextOf}
-use Rattle.iff_rules.specs.Load.{lengthVerdict, presentIn, absenceVerdict, roomVerdict, overFiles, headerOf, readFile, fileVerdict, deliveryVerdict, companyVerdict, contentsVerdict, loadVerdict, filled, loadTable}
+use Rattle.iff_rules.specs.Load.{lengthVerdict, presentIn, absenceVerdict, roomVerdict, overFiles, headerOf, fileVerdict, contentsVerdict, loadVerdict, filled, loadTable}
 use Rattle.iff_laws.specs.ScanLaws.{no-fault-all}
 use Rattle.amend_laws.proofs.OtherTables.{withTimetbls, same-context}
 use Rattle.amend_laws.proofs.EditedVerdicts.{lone-fault}
@@ -42,20 +42,15 @@ module _ (F : PerFile (List ℕ)) (R : PerFile ℕ) (e : loadVerdict F R ≡ Fin
   -- the tests of sizes
   lengths : overFiles (λ f. lengthVerdict f (length (of G f))) ≡ lengthVerdict Timetbls (length t)
   unfolding loadVerdict
-  lengths =
-      lone-fault (map (λ f. lengthVerdict f (length (of F f))) inOrder) 7 (lengthVerdict Timetbls (length t)) (omega arith)
-      (no-fault-all _ e 0 (omega arith))
+  lengths = lone-fault _ 7 (lengthVerdict Timetbls (length t)) (omega arith) (no-fault-all _ e 0 (omega arith))
 
   absences : overFiles (absenceVerdict (presentIn G)) ≡ absenceVerdict (presentIn G) Timetbls
   unfolding loadVerdict
-  absences =
-      lone-fault (map (absenceVerdict (presentIn F)) inOrder) 7 (absenceVerdict (presentIn G) Timetbls) (omega arith) (no-fault-all _ e 1 (omega arith))
+  absences = lone-fault _ 7 (absenceVerdict (presentIn G) Timetbls) (omega arith) (no-fault-all _ e 1 (omega arith))
 
   rooms : overFiles (λ f. roomVerdict f (length (lines (of G f))) (of R f)) ≡ roomVerdict Timetbls (length (lines t)) (R .timetbls)
   unfolding loadVerdict
-  rooms =
-      lone-fault (map (λ f. roomVerdict f (length (lines (of F f))) (of R f)) inOrder) 7 (roomVerdict Timetbls (length (lines t)) (R .timetbls))
-      (omega arith) (no-fault-all _ e 2 (omega arith))
+  rooms = lone-fault _ 7 (roomVerdict Timetbls (length (lines t)) (R .timetbls)) (omega arith) (no-fault-all _ e 2 (omega arith))
 
   -- the lines, file by file
   was-read : contentsVerdict c D F ≡ Fine
@@ -64,22 +59,7 @@ module _ (F : PerFile (List ℕ)) (R : PerFile ℕ) (e : loadVerdict F R ≡ Fin
 
   reads : contentsVerdict c (rowsOfFiles G) G ≡ fileVerdict c (headerOf F) Timetbls (lines t)
   unfolding contentsVerdict
-  reads =
-      lone-fault
-      (deliveryVerdict (lines (F .delivery))
-      ∷ readFile c F (Rows Company)
-      ∷ companyVerdict c (D .delivery)
-      ∷ readFile c F (Rows Country)
-      ∷ readFile c F (Rows Trnsmode)
-      ∷ readFile c F (Groups Timezone)
-      ∷ readFile c F (Rows Stations)
-      ∷ readFile c F (Groups Footnote)
-      ∷ readFile c F Timetbls
-      ∷ readFile c F (Groups Changes)
-      ∷ readFile c F (Groups Xfootnote)
-      ∷ readFile c F (Groups Xchanges)
-      ∷ [])
-      8 (fileVerdict c (headerOf F) Timetbls (lines t)) (omega arith) was-read
+  reads = lone-fault _ 8 (fileVerdict c (headerOf F) Timetbls (lines t)) (omega arith) was-read
 
   module _ (services : keysOf Timetbls rows ≡ keysOf Timetbls (D .timetbls)) where
     pub context-same : contextOf (rowsOfFiles G) ≡ c

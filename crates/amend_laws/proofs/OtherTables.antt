@@ -49,7 +49,7 @@ module _ {A : Type 0} (T : PerFile A) (t : A) (P : File → A → A → Type 0) 
   with-groups Xfootnote = same (Groups Xfootnote) (T .xfootnote)
   with-groups Xchanges = same (Groups Xchanges) (T .xchanges)
 
-  with-each : P Timetbls t (T .timetbls) → (f : File) → P f (of (withTimetbls T t) f) (of T f)
+  pub with-each : P Timetbls t (T .timetbls) → (f : File) → P f (of (withTimetbls T t) f) (of T f)
   with-each own Delivery = same Delivery (T .delivery)
   with-each own (Rows f) = with-rows f
   with-each own (Groups f) = with-groups f
