@@ -136,7 +136,7 @@ module _ (F : PerFile (List ℕ)) (R : PerFile ℕ) (bytes : OfBytes F) (e : loa
   own-form = ap (λ (rs : List Row). formOf (firstOf rs)) (delivery-formless form (form424 0) (lines (F .delivery)))
 
   -- its verdicts, file by file
-  pub contents : contentsVerdict c D F ≡ Fine
+  contents : contentsVerdict c D F ≡ Fine
   unfolding loadVerdict
   contents = no-fault-all _ e 3 (omega arith)
 
