@@ -57,26 +57,26 @@ first-meaning f d r rs e = one-of _ e 2
 
 -- the parts of sound rows
 module _ (c : Context) (d : Row) (f : File) (r : Row) (rs : List Row) (e : soundRows c d f (r ∷ rs) ≡ true) where
-  first-row : soundFirst f d r rs ≡ true
+  pub first-row : soundFirst f d r rs ≡ true
   unfolding soundRows
   first-row = one-of _ e 0
 
-  first-at : tag r ≡ at
+  pub first-at : tag r ≡ at
   first-at = first-tag f d r rs first-row
 
-  later-once : distinct (keysOf f rs) ≡ true
+  pub later-once : distinct (keysOf f rs) ≡ true
   unfolding soundRows
   later-once = one-of _ e 1
 
-  later-rows : soundLater c f rs ≡ true
+  pub later-rows : soundLater c f rs ≡ true
   unfolding soundRows
   later-rows = one-of _ e 2
 
-  later-keys : keysOf f (r ∷ rs) ≡ keysOf f rs
+  pub later-keys : keysOf f (r ∷ rs) ≡ keysOf f rs
   unfolding kept
   later-keys = rw (first-at, at-no-key f)
 
-  later-groups : groups isHashRow (r ∷ rs) ≡ groups isHashRow rs
+  pub later-groups : groups isHashRow (r ∷ rs) ≡ groups isHashRow rs
   unfolding groups
   later-groups = rw first-at
 

@@ -54,7 +54,7 @@ rows-of T (Groups Xchanges) = refl
 rows-of T Timetbls = refl
 
 module _ (T : PerFile (List ℕ)) (s : sound T ≡ true) where
-  table-sound : (f : File) → soundTable (contextOf (rowsOfTables T)) (rowsOfTables T) f (of T f) ≡ true
+  pub table-sound : (f : File) → soundTable (contextOf (rowsOfTables T)) (rowsOfTables T) f (of T f) ≡ true
   unfolding sound
   table-sound f = each-file (λ f. soundTable (contextOf (rowsOfTables T)) (rowsOfTables T) f (of T f)) (both _ _ s .0) f
 

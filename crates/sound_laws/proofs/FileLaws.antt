@@ -130,7 +130,7 @@ module _ (header : List ℕ) (f : File) (l : Line) (bytes : InBytes l) (p : Firs
         ),
       )
 
-  first-size : firstSize ≡ size l
+  pub first-size : firstSize ≡ size l
   first-size =
       let n : length (l .body) ≡ length (picture firstFields) = same-length column (l .body) (picture firstFields) (and-right (l .ended) _ (p .lays)) in
       rw (n, and-left (l .ended) (fits (l .body) (picture firstFields)) (p .lays))

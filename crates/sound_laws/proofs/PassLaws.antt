@@ -1,9 +1,10 @@
 -- A scan of lines without fault is a pass over their rows, in the states that belong to each other. Laws over plain lists. Assumes nothing.
-use Prim.Native.Nat.{ℕ, suc}
+use Prim.Native.Nat.{ℕ, suc, _+_}
 use mathlib.Core.Path.{_≡_, refl, ap}
-use mathlib.Core.List.{List, [], _∷_, map}
+use mathlib.Core.List.{List, [], _∷_, _++_, map}
 use mathlib.Core.Bool.{Bool, true, false, cond}
-use Rattle.iff.specs.Lists.{Group, front, groups, members, all, allOf, any}
+use native.Mathlib.Omega.{arith}
+use Rattle.iff.specs.Lists.{Group, front, groups, members, all, allOf, any, total}
 use Rattle.iff.specs.Refusals.{scan}
 use Rattle.iff.specs.declared.Verdict.{Verdict}
 use Rattle.iff.specs.declared.Verdict.the-variants.{Fine}
@@ -46,6 +47,12 @@ module _ {A B : Type 0} where
   unfolding all
   each-all p to [] u = refl
   each-all p to (x ∷ xs) u = and-both (u .0) (each-all p to xs (u .1))
+
+-- A TOTAL of two lists
+pub total-append : {A : Type 0} (size : A → ℕ) (xs ys : List A) → total size (xs ++ ys) ≡ total size xs + total size ys
+unfolding total
+total-append size [] ys = omega arith
+total-append size (x ∷ xs) ys = omega (arith, total-append size xs ys)
 
 -- a list of tests all of which hold
 abbrev pub Holds : List Bool → Type 0
@@ -96,7 +103,7 @@ module _ {A : Type 0} (h : A → Bool) where
   abbrev pub Opens : Group A → Type 0
   Opens g = (h (g .top) ≡ true) × (any h (g .rest) ≡ false)
 
-  none-in-front : (xs : List A) → any h (front h xs) ≡ false
+  pub none-in-front : (xs : List A) → any h (front h xs) ≡ false
   unfolding any front
   none-in-front [] = refl
   none-in-front (x ∷ xs) = go (h x) refl (none-in-front xs)

@@ -79,7 +79,7 @@ abbrev soundWith : PerFile (List ℕ) → PerFile (List Row) → Bool
 soundWith T D =
     all (λ f. soundTable (contextOf D) D f (of T f)) inOrder && names (contextOf D) (Rows Company) (ownCompany (firstOf (D .delivery)))
 
-sound-by : (T : PerFile (List ℕ)) (D : PerFile (List Row)) → rowsOfTables T ≡ D → ((f : File) → soundTable (contextOf D) D f (of T f) ≡ true)
+pub sound-by : (T : PerFile (List ℕ)) (D : PerFile (List Row)) → rowsOfTables T ≡ D → ((f : File) → soundTable (contextOf D) D f (of T f) ≡ true)
     → names (contextOf D) (Rows Company) (ownCompany (firstOf (D .delivery))) ≡ true → sound T ≡ true
 unfolding sound
 sound-by T D e m n = ap (soundWith T) e ∙ and-both (every-file (λ f. soundTable (contextOf D) D f (of T f)) m inOrder) n
@@ -128,10 +128,10 @@ module _ (F : PerFile (List ℕ)) (R : PerFile ℕ) (bytes : OfBytes F) (e : loa
   abbrev linesOf : File → List Line
   linesOf f = lines (of F f)
 
-  meets : Meets F R
+  pub meets : Meets F R
   meets = fine-exactly F R .0 e
 
-  own-form : c .form ≡ form
+  pub own-form : c .form ≡ form
   unfolding contextOf
   own-form = ap (λ (rs : List Row). formOf (firstOf rs)) (delivery-formless form (form424 0) (lines (F .delivery)))
 
@@ -163,7 +163,7 @@ module _ (F : PerFile (List ℕ)) (R : PerFile ℕ) (bytes : OfBytes F) (e : loa
   groups-read Xfootnote = no-fault-all _ contents 10 (omega arith)
   groups-read Xchanges = no-fault-all _ contents 11 (omega arith)
 
-  timetbls-read : readFile c F Timetbls ≡ Fine
+  pub timetbls-read : readFile c F Timetbls ≡ Fine
   unfolding contentsVerdict
   timetbls-read = no-fault-all _ contents 8 (omega arith)
 
@@ -183,13 +183,13 @@ module _ (F : PerFile (List ℕ)) (R : PerFile ℕ) (bytes : OfBytes F) (e : loa
   rows-by : (f : File) → of D f ≡ rowsOfLines form f (linesOf f)
   rows-by f = of-each (λ g. rowsOfLines form g (linesOf g)) f
 
-  rows-are : (f : File) → of D f ≡ rowsOfLines (c .form) f (linesOf f)
+  pub rows-are : (f : File) → of D f ≡ rowsOfLines (c .form) f (linesOf f)
   rows-are f = rows-by f ∙ ap (λ (m : Form). rowsOfLines m f (linesOf f)) (sym own-form)
 
-  used : (f : File) → Each (Used (rowWidth f)) (of D f)
+  pub used : (f : File) → Each (Used (rowWidth f)) (of D f)
   used f = rw (rows-are f) (held f .used)
 
-  fit : (f : File) → length (of D f) * rowWidth f ≤ of R f
+  pub fit : (f : File) → length (of D f) * rowWidth f ≤ of R f
   fit f =
       let n : length (rowsOfLines (c .form) f (linesOf f)) ≤ of R f / rowWidth f = omega (arith, held f .few-rows, meets .roomy f) in
       le-div-iff-mul-le (widths f .some) .0 (rw (rows-are f) n)
@@ -201,14 +201,14 @@ module _ (F : PerFile (List ℕ)) (R : PerFile ℕ) (bytes : OfBytes F) (e : loa
   abbrev T : PerFile (List ℕ)
   T = perFile (λ f. loadTable f F R)
 
-  table-is : (f : File) → of T f ≡ fill (rowWidth f) (of R f) (of D f)
+  pub table-is : (f : File) → of T f ≡ fill (rowWidth f) (of R f) (of D f)
   unfolding loadTable filled
   table-is f = of-each (λ g. loadTable g F R) f ∙ rw e
 
   table-rows : (f : File) → rowsIn f (of T f) ≡ rowsOfLines form f (linesOf f)
   table-rows f = ap (rowsIn f) (table-is f) ∙ rows-in-fill (rowWidth f) (widths f .some) (of R f) (of D f) (used f) (fit f) ∙ rows-by f
 
-  tables-rows : rowsOfTables T ≡ D
+  pub tables-rows : rowsOfTables T ≡ D
   tables-rows = λ i. perFile (λ f. table-rows f i)
 
   -- SOUND
@@ -221,7 +221,7 @@ module _ (F : PerFile (List ℕ)) (R : PerFile ℕ) (bytes : OfBytes F) (e : loa
       ∙ rows-sound c (headerOf F) (firstOf (D .delivery)) (delivery-words form (lines (F .delivery)) delivery-there) f (linesOf f)
       (lines-bytes (of F f) (bytes .below f)) (files f) (omega (arith, length-lines (of F f), meets .short f))
 
-  faultless-sound : sound T ≡ true
+  pub faultless-sound : sound T ≡ true
   faultless-sound =
       sound-by T D tables-rows
       (λ f. table-sound c F D present f (of R f) (of T f) (table-is f) (used f) (meets .there f) (rows-ok f)) company-named

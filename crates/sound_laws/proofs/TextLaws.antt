@@ -17,11 +17,11 @@ use Rattle.tables.proofs.Each.{Each}
 use Rattle.sound_laws.proofs.PlainLaws.{InBytes}
 
 -- BYTES
-with-byte : (b : ℕ) (s : List ℕ) → b < 256 → EachByte 256 s → EachByte 256 (b ∷ s)
+pub with-byte : (b : ℕ) (s : List ℕ) → b < 256 → EachByte 256 s → EachByte 256 (b ∷ s)
 with-byte b s h p zero = h
 with-byte b s h p (suc i) = p i
 
-no-byte : EachByte 256 []
+pub no-byte : EachByte 256 []
 no-byte i = lit< tt
 
 before-bytes : (b : ℕ) (ls : List Line) → b < 256 → Each InBytes ls → Each InBytes (before b ls)
@@ -42,7 +42,7 @@ lines-bytes (b ∷ c ∷ s) p =
     go false u v = v
 
 -- LENGTH
-length-text : (ls : List Line) → length (text ls) ≡ total size ls
+pub length-text : (ls : List Line) → length (text ls) ≡ total size ls
 unfolding text total
 length-text [] = refl
 length-text (l ∷ ls) = go (l .ended) (length-text ls)

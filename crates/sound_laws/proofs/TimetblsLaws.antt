@@ -34,7 +34,7 @@ use Rattle.legs.proofs.RowLaws.{tag-is, stops-same}
 use Rattle.block_rows.proofs.RowLaws.{rows-count, keys-nil, block-keys}
 use Rattle.keys.proofs.Fills.{keys-append}
 use Rattle.timetbls.proofs.GroupLaws.{groups-first, front-open}
-use Rattle.sound_laws.proofs.PassLaws.{scan-passes, scan-each, all-hold, each-all, each-front, each-group, each-entry, Opens, groups-open}
+use Rattle.sound_laws.proofs.PassLaws.{scan-passes, scan-each, total-append, all-hold, each-all, each-front, each-group, each-entry, Opens, groups-open}
 use Rattle.sound_laws.proofs.BlockLaws.{block-size, block-seven, block-row, rows-stand, counts-are}
 use Rattle.sound_laws.proofs.PlainLaws.{InBytes, Laid}
 
@@ -43,7 +43,7 @@ module _ (form : Form) where
   abbrev pub blockOf : Group Line → Group Row
   blockOf g = record { top = blockRow form (stopsIn g) (linesIn g) 1 (g .top); rest = blockRowsFrom form (stopsIn g) (linesIn g) 2 (g .rest) }
 
-  none-open : (n k j : ℕ) (ls : List Line) → any isHash ls ≡ false → any isHashRow (blockRowsFrom form n k j ls) ≡ false
+  pub none-open : (n k j : ℕ) (ls : List Line) → any isHash ls ≡ false → any isHashRow (blockRowsFrom form n k j ls) ≡ false
   unfolding any blockRowsFrom
   none-open n k j [] e = refl
   none-open n k j (l ∷ ls) e = rw (tag-is form n k j l) (go (isHash l) e (none-open n k (suc j) ls))
@@ -54,14 +54,14 @@ module _ (form : Form) where
       go false e ih = ih e
 
   -- the groups of the rows are the blocks
-  front-blocks : (gs : List (Group Line)) → Each (Opens isHash) gs → front isHashRow (blocksRows form gs) ≡ []
+  pub front-blocks : (gs : List (Group Line)) → Each (Opens isHash) gs → front isHashRow (blocksRows form gs) ≡ []
   unfolding blocksRows blockRowsFrom front
   front-blocks [] u = refl
   front-blocks (g ∷ gs) u =
       front-open isHashRow (blockRow form (stopsIn g) (linesIn g) 1 (g .top))
       (blockRowsFrom form (stopsIn g) (linesIn g) 2 (g .rest) ++ blocksRows form gs) (rw tag-is (u .0 .0))
 
-  groups-blocks : (gs : List (Group Line)) → Each (Opens isHash) gs → groups isHashRow (blocksRows form gs) ≡ map blockOf gs
+  pub groups-blocks : (gs : List (Group Line)) → Each (Opens isHash) gs → groups isHashRow (blocksRows form gs) ≡ map blockOf gs
   unfolding blocksRows blockRowsFrom groups
   groups-blocks [] u = refl
   groups-blocks (g ∷ gs) u =
@@ -70,19 +70,14 @@ module _ (form : Form) where
       ∙ ap (λ (rest : List (Group Row)). blockOf g ∷ rest) (groups-blocks gs (u .1))
 
   -- their keys are the services
-  keys-of-blocks : (gs : List (Group Line)) → Each (Opens isHash) gs → keysOf Timetbls (blocksRows form gs) ≡ map (serviceOf form) gs
+  pub keys-of-blocks : (gs : List (Group Line)) → Each (Opens isHash) gs → keysOf Timetbls (blocksRows form gs) ≡ map (serviceOf form) gs
   unfolding blocksRows
   keys-of-blocks [] u = keys-nil
   keys-of-blocks (g ∷ gs) u =
       keys-append Timetbls (blockRows form g) (blocksRows form gs) ∙ rw (block-keys form g (u .0 .0) (u .0 .1), keys-of-blocks gs (u .1))
 
   -- they tell the lines' length
-  total-append : {A : Type 0} (size : A → ℕ) (xs ys : List A) → total size (xs ++ ys) ≡ total size xs + total size ys
-  unfolding total
-  total-append size [] ys = omega arith
-  total-append size (x ∷ xs) ys = omega (arith, total-append size xs ys)
-
-  block-sizes : (n k j : ℕ) (ls : List Line) → Each (Laid form Timetbls) ls → total (rowSize form Timetbls) (blockRowsFrom form n k j ls) ≡ total size ls
+  pub block-sizes : (n k j : ℕ) (ls : List Line) → Each (Laid form Timetbls) ls → total (rowSize form Timetbls) (blockRowsFrom form n k j ls) ≡ total size ls
   unfolding total blockRowsFrom
   block-sizes n k j [] u = refl
   block-sizes n k j (l ∷ ls) u = rw (block-size form n k j l (u .0), block-sizes n k (suc j) ls (u .1))
@@ -147,7 +142,7 @@ module _ (c : Context) (seen : List ℕ) (o : ℕ) (g : Group Line) (bytes : Eac
       })
       blockStart 1 (members g) bytes lines-fine
 
-  block-sound : soundBlock c (blockOf (c .form) g) ≡ true
+  pub block-sound : soundBlock c (blockOf (c .form) g) ≡ true
   unfolding soundBlock blockRowsFrom
   block-sound =
       let h : isHash (g .top) ≡ true = eq-eqb _ _ top-hash in
@@ -166,7 +161,7 @@ module _ (c : Context) (seen : List ℕ) (o : ℕ) (g : Group Line) (bytes : Eac
         ),
       )
 
-  block-laid : Each (Laid (c .form) Timetbls) (members g)
+  pub block-laid : Each (Laid (c .form) Timetbls) (members g)
   block-laid =
       scan-each _ _ InBytes (Laid (c .form) Timetbls)
       (λ st j l u q. block-seven c seen st (At Timetbls o j) l u q .is-laid-out) blockStart 1 (members g) bytes lines-fine
@@ -180,15 +175,15 @@ module _ (c : Context) (seen : List ℕ) (o : ℕ) (g : Group Line) (bytes : Eac
 
 -- THE FILE
 module _ (c : Context) (ls : List Line) (bytes : Each InBytes ls) (e : timetblsVerdict c ls ≡ Fine) where
-  no-stray : front isHash ls ≡ []
+  pub no-stray : front isHash ls ≡ []
   unfolding timetblsVerdict
   no-stray = stray-none Timetbls knownInBlock (front isHash ls) (cons-fine _ _ e .0)
 
-  blocks-fine : scan (λ seen o g. blockVerdict c seen o g) (λ seen g. seen ++ (serviceOf (c .form) g ∷ [])) [] 1 (blocksOf ls) ≡ Fine
+  pub blocks-fine : scan (λ seen o g. blockVerdict c seen o g) (λ seen g. seen ++ (serviceOf (c .form) g ∷ [])) [] 1 (blocksOf ls) ≡ Fine
   unfolding timetblsVerdict
   blocks-fine = cons-fine _ _ (cons-fine _ _ e .1) .0
 
-  block-bytes : Each (λ g. Each InBytes (members g)) (blocksOf ls)
+  pub block-bytes : Each (λ g. Each InBytes (members g)) (blocksOf ls)
   block-bytes = each-group isHash InBytes ls bytes
 
   pub timetbls-sound : soundTimetbls c (blocksRows (c .form) (blocksOf ls)) ≡ true

@@ -1,0 +1,15 @@
+pub mod GroupLists
+pub mod NewBlock
+pub mod AmendedRows
+pub mod AmendedTimetbls
+pub mod OtherTables
+pub mod Accepted
+pub mod AmendedSound
+pub mod OthersKept
+pub mod EditedText
+pub mod EditedVerdicts
+pub mod EditedBlocks
+pub mod EditedFile
+pub mod EditedLoad
+pub mod DemandThree
+pub mod ManyAmendments

@@ -1,0 +1,1 @@
+// Laws over the definitions of document 01: amendments. See proofs/.
