@@ -26,6 +26,11 @@ pub fn replace_block(
         ++ (blockRows form (asBlock (now (block .entry))) ++ rowsBetween (rowWidth Timetbls) (now (t .entry)) to used)) ⌝ }
 {
     let behind = from + lines as usize;
-    row_moves::make_room(t, tables::BLOCK_WIDTH, to, behind, used - to);
+    row_moves::move_rest(
+        t,
+        to * tables::BLOCK_WIDTH,
+        used * tables::BLOCK_WIDTH,
+        behind * tables::BLOCK_WIDTH,
+    );
     block_rows::write_block(block, form, lines, stops, t, from);
 }

@@ -1,9 +1,8 @@
 -- The two loops that copy words within a table. Assumes nothing.
-use Prim.Native.Nat.{ℕ, zero, suc, _+_, _-_, _≤_, _<_}
+use Prim.Native.Nat.{ℕ, suc, _+_, _-_, _≤_, _<_}
 use mathlib.Core.Path.{_≡_, refl, ap, sym, _∙_}
-use mathlib.Core.List.{List, [], _∷_, _++_, append-assoc}
+use mathlib.Core.List.{List, _∷_, _++_, append-assoc}
 use native.Mathlib.Nat.{add-zero, sub-zero}
-use native.Mathlib.Numerals.{add-one}
 use native.Mathlib.Omega.{arith}
 use lib.ListN.{length, getD, take, drop, set, length-drop, length-set, take-append-drop}
 use lib.Seq.{paste, paste-zero, drop-paste, getD-take, getD-drop, take-suc, drop-cons, append-snoc, set-at, take-at, length-take-le}
@@ -73,8 +72,9 @@ module _ (was is : List ℕ) (from to count left : ℕ) (high : from ≤ to) (in
   pub back-next : (k : ℕ) → left ≡ suc k → Backing was (set is (to + k) (getD is (from + k) 0)) from to count k
   back-next k s =
       let a : to + left ≤ length was = omega (arith, x .few) in
+      let rest = take (count - left) (drop (from + left) was) ++ drop (to + count) was in
       let f : take (to + left) is ≡ take (to + left) was =
-      ap (take (to + left)) (x .done) ∙ take-at (take (to + left) was) _ (to + left) (length-take-le (to + left) was a) in
+      ap (take (to + left)) (x .done) ∙ take-at (take (to + left) was) rest (to + left) (length-take-le (to + left) was a) in
       let r : getD is (from + k) 0 ≡ getD was (from + k) 0 = same-before is was (to + left) (from + k) (omega arith) f in
       let p : to + left ≡ suc (to + k) = omega arith in
       let q : from + left ≡ suc (from + k) = omega arith in
@@ -87,12 +87,12 @@ module _ (was is : List ℕ) (from to count left : ℕ) (high : from ≤ to) (in
         done =
             ap (λ (y : ℕ). set is (to + k) y) r
             ∙ ap (λ (l : List ℕ). set l (to + k) v) (rw p at (x .done))
-            ∙ set-last was (take (count - left) (drop (from + left) was) ++ drop (to + count) was) (to + k) v (omega (arith, x .few))
-            ∙ rw (m, drop-cons was (from + k) 0, q);
+            ∙ set-last was rest (to + k) v (omega (arith, x .few))
+            ∙ rw (m, drop-cons was (from + k) 0 g, q);
       }
 
   pub back-end : left ≤ 0 → is ≡ copied was from to count
   unfolding copied
   back-end h =
       let e : left ≡ 0 = omega arith in
-      x .done ∙ rw (e, add-zero, add-zero, sub-zero)
+      x .done ∙ rw (e, add-zero to, add-zero from, sub-zero)

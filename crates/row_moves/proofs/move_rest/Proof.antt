@@ -1,5 +1,5 @@
 -- `row_moves::move_rest` meets its contract: words copied, and zeros behind them. Assumes nothing.
-use mathlib.Core.Path.{refl, _∙_}
+use mathlib.Core.Path.{_∙_}
 use native.Mathlib.Omega.{arith}
 use borrow.Author.Needs.{needs}
 use Rattle.row_moves.proofs.MoveLaws.{moved-front, moved-back, moved-nowhere}
@@ -13,7 +13,7 @@ returns c =
     let s = f .before .before .before .before in
     let a = s .args in
     moved-front (a .t .now) (a .from) (a .end) (a .to) (s .pre) (omega (arith, f .before .before .if1 .taken))
-    (f .copy-to-front .last .0) (f .copy-to-front .ensures) _ refl (k .clear .last .0) (k .clear .ensures)
+    (f .copy-to-front .last .0) (f .copy-to-front .ensures) _ (omega arith) (k .clear .last .0) (k .clear .ensures)
 
 returns-2 : tie.Need-returns-2
 returns-2 c =
