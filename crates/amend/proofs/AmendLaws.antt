@@ -1,36 +1,31 @@
 -- The whole of an amendment, over plain variables. Assumes nothing.
-use Prim.Native.Nat.{ℕ, _-_, _*_, _≤_, _<_}
+use Prim.Native.Nat.{ℕ, _-_, _≤_}
 use mathlib.Core.Path.{_≡_, refl, ap, ap₂, sym, _∙_}
-use mathlib.Core.List.{List, _++_}
-use mathlib.Core.Bool.{Bool, true, false, cond}
-use lib.ListN.{length, getD, take, drop}
+use mathlib.Core.List.{List}
+use mathlib.Core.Bool.{true, false, cond}
+use lib.ListN.{length, take, drop}
 use Rattle.iff.specs.Files.{PerFile, of}
 use Rattle.iff.specs.Refusals.{orElse, firstFault, answer, fine}
-use Rattle.iff.specs.Tables.{Row, rowWidth, rowsIn, fill, keysOf}
-use Rattle.iff.specs.declared.RowFile.the-variants.{Company, Trnsmode, Stations}
-use Rattle.iff.specs.declared.GroupFile.the-variants.{Footnote}
-use Rattle.iff.specs.declared.File.the-variants.{Delivery, Rows, Groups, Timetbls}
+use Rattle.iff.specs.Tables.{rowWidth, rowsIn, fill, keysOf}
+use Rattle.iff.specs.declared.File.the-variants.{Delivery, Timetbls}
 use Rattle.iff.specs.declared.Form.{Form}
 use Rattle.iff.specs.declared.Answer.{Answer}
-use Rattle.iff.specs.declared.Answer.the-variants.{Accepted, Refused}
+use Rattle.iff.specs.declared.Answer.the-variants.{Refused}
 use Rattle.iff.specs.declared.Place.the-variants.{Nowhere}
 use Rattle.iff.specs.declared.Reason.the-variants.{NotSound}
 use Rattle.iff.specs.declared.Verdict.{Verdict}
-use Rattle.iff_rules.specs.Rows.{Context, contextOf, formOf, firstOf, blockRows, asBlock}
+use Rattle.iff_rules.specs.Rows.{Context, contextOf, formOf, firstOf}
 use Rattle.iff_rules.specs.Load.{faultUnless}
 use Rattle.iff_desk.specs.Sound.{sound, rowsOfTables}
 use Rattle.iff_desk.specs.Amend.{placeOf, amendedRows, amendVerdict, amendAnswer, amendTimetbls}
 use Rattle.walks.proofs.TableLaws.{inside, first-inside, first-row}
-use Rattle.keys.specs.Blocks.{rowsBetween}
 use Rattle.references.specs.Agree.{BlockKeys}
 use Rattle.sound_facts.proofs.SoundFacts.{delivery-held, unused-zero, short, once}
-use Rattle.block_edits.specs.Replace.{Replaceable}
-use Rattle.amend_tests.specs.declared.Edit.{Edit}
 use Rattle.amend_tests.specs.declared.Judged.{Judged}
 use Rattle.amend_tests.specs.declared.Judged.the-variants.{Refuse, Replace}
 use Rattle.amend_tests.specs.Judged.{judgedVerdict, editVerdict, Judgeable, AmendJudged}
 use Rattle.amend_done.specs.Done.{Doable, tableAfter, Done}
-use Rattle.amend.specs.Amended.{SoundThere, verdictThere, amendedThere, AmendedThere, Amended}
+use Rattle.amend.specs.Amended.{SoundThere, verdictThere, AmendedThere, Amended}
 
 -- DELIVERY's first row
 module _ (d t : List ℕ) (h : SoundThere d t) where

@@ -1,8 +1,7 @@
 -- Each way to carry an amendment out. Assumes nothing.
 use Prim.Native.Nat.{ℕ}
-use mathlib.Core.Path.{_≡_, refl, ap, sym, _∙_}
+use mathlib.Core.Path.{_≡_, refl}
 use mathlib.Core.List.{List}
-use Rattle.iff.specs.Refusals.{answer}
 use Rattle.iff.specs.declared.Answer.the-variants.{Accepted, Refused}
 use Rattle.iff.specs.declared.Form.{Form}
 use Rattle.iff.specs.declared.Place.{Place}
@@ -10,7 +9,6 @@ use Rattle.iff.specs.declared.Reason.{Reason}
 use Rattle.amend_tests.specs.declared.Edit.{Edit}
 use Rattle.amend_tests.specs.declared.Judged.{Judged}
 use Rattle.amend_tests.specs.declared.Judged.the-variants.{Refuse, Replace}
-use Rattle.amend_tests.specs.Judged.{judgedVerdict}
 use Rattle.amend_done.specs.Done.{tableAfter, Done}
 
 module _ (j : Judged) (form : Form) (services : ℕ) (b was : List ℕ) where

@@ -1,16 +1,15 @@
 -- Each way out of the tests of an amendment is its first fault. Assumes nothing.
-use Prim.Native.Nat.{ℕ, suc, _+_, _-_, _*_, _/_, _≤_, _<_}
+use Prim.Native.Nat.{ℕ, suc, _+_, _-_, _/_, _≤_, _<_}
 use mathlib.Core.Path.{_≡_, refl, ap, ap₂, sym, _∙_}
 use mathlib.Core.List.{List, [], _∷_, _++_}
-use mathlib.Core.Bool.{Bool, true, false, _&&_, not, true≢false, false≢true}
+use mathlib.Core.Bool.{Bool, true, false, _&&_, false≢true}
 use native.Mathlib.Nat.{sub-zero, le-trans, mul-le-mul-right, div-mul-le-self}
 use native.Mathlib.Omega.{arith}
 use borrow.Author.Tests.{leb-true, eqb-true}
 use lib.Dec.{leb, eqb}
 use lib.ListN.{length, getD, take, drop}
 use Rattle.iff.specs.Bytes.{digit}
-use Rattle.iff.specs.Lists.{total, has, all, members}
-use Rattle.iff.specs.Files.{limit}
+use Rattle.iff.specs.Lists.{total, has, all}
 use Rattle.iff.specs.Lines.{Line, lines, isHash, noLine}
 use Rattle.iff.specs.Refusals.{orElse, firstFault, fine}
 use Rattle.iff.specs.Tables.{Row, rowWidth, rowsIn, keysOf}
@@ -24,9 +23,9 @@ use Rattle.iff.specs.declared.Reason.{Reason}
 use Rattle.iff.specs.declared.Reason.the-variants.{NoRoom, NotOneBlock, NoService}
 use Rattle.iff.specs.declared.Verdict.{Verdict}
 use Rattle.iff.specs.declared.Verdict.the-variants.{Fine, Fault}
-use Rattle.iff_rules.specs.Rows.{rowOf, blockRows, asBlock, linesIn, Context}
+use Rattle.iff_rules.specs.Rows.{rowOf, blockRows, asBlock, Context}
 use Rattle.iff_rules.specs.Unique.{freshKey}
-use Rattle.iff_rules.specs.Load.{faultUnless, lengthVerdict, roomVerdict, blockVerdict, serviceOf}
+use Rattle.iff_rules.specs.Load.{faultUnless, lengthVerdict, roomVerdict, blockVerdict}
 use Rattle.iff_laws.specs.TruthLaws.{both}
 use Rattle.iff_laws.specs.ScanLaws.{or-fine}
 use Rattle.iff_desk.specs.Sound.{rowSize, firstSize}
@@ -38,7 +37,7 @@ use Rattle.references.specs.declared.BlockCounts.{BlockCounts}
 use Rattle.legs.proofs.RowLaws.{block-lines}
 use Rattle.blocks.specs.declared.Checked.{Checked}
 use Rattle.blocks.specs.declared.Checked.the-variants.{Whole, Broken}
-use Rattle.blocks.specs.Whole.{WholeBlock, BlockChecked, headWord}
+use Rattle.blocks.specs.Whole.{BlockChecked, headWord}
 use Rattle.blocks.proofs.ServiceLaws.{head-service}
 use Rattle.blocks.proofs.WholeLaws.{fresh-service}
 use Rattle.walks.proofs.GroupLaws.{between-rest}
@@ -110,7 +109,8 @@ regroup Fine Fine (Fault r p) = refl
 regroup Fine (Fault r p) v = refl
 regroup (Fault r p) y v = refl
 
-module _ (form : Form) (t : List ℕ) (s : ℕ) (b : List ℕ) (c : Context) (f : c .form ≡ form) (q : c .keys Timetbls ≡ keysOf Timetbls (rowsIn Timetbls t)) where
+module _ (form : Form) (t : List ℕ) (s : ℕ) (b : List ℕ) (c : Context) (f : c .form ≡ form)
+    (q : c .keys Timetbls ≡ keysOf Timetbls (rowsIn Timetbls t)) where
   says-not-one : isOneBlock s (lines b) ≡ false → Fault NotOneBlock Nowhere ≡ editVerdict c (rowsIn Timetbls t) (length t) s b
   unfolding editVerdict firstFault
   says-not-one e = rw e
@@ -129,7 +129,8 @@ module _ (form : Form) (t : List ℕ) (s : ℕ) (b : List ℕ) (c : Context) (f 
       inTurn n l v = orElse (lengthVerdict Timetbls n) (orElse (roomVerdict Timetbls l (length t)) (orElse v Fine))
 
       opened : editVerdict c (rowsIn Timetbls t) (length t) s b
-          ≡ inTurn (editedLength c k (rowsIn Timetbls t) b) (editedLines k (rowsIn Timetbls t) b) (blockVerdict c (take k (c .keys Timetbls)) (suc k) (asBlock b))
+          ≡ inTurn (editedLength c k (rowsIn Timetbls t) b) (editedLines k (rowsIn Timetbls t) b)
+          (blockVerdict c (take k (c .keys Timetbls)) (suc k) (asBlock b))
       unfolding editVerdict firstFault
       opened = rw (one, ap (has s) q ∙ there)
 

@@ -2,18 +2,17 @@
 use Prim.Native.Nat.{ℕ, zero, suc, _-_, _≤_}
 use mathlib.Core.Path.{_≡_, refl, ap, sym, _∙_}
 use mathlib.Core.List.{List, [], _∷_, _++_, map}
-use mathlib.Core.Bool.{Bool, true, false, _&&_, _||_, cond, true≢false}
+use mathlib.Core.Bool.{Bool, true, false, _&&_, cond, true≢false}
 use native.Mathlib.Omega.{arith}
 use lib.Dec.{eqb}
 use lib.ListN.{length, take, drop}
-use Rattle.iff.specs.Lists.{Group, front, groups, flat, any, kept, position, has}
+use Rattle.iff.specs.Lists.{front, groups, flat, any, kept, position}
 use Rattle.iff.specs.Tables.{Row, word, isHashRow, keysOf, firstRow}
 use Rattle.iff.specs.Words.{named}
 use Rattle.iff.specs.declared.RowOf.the-variants.{Row as RowIs}
 use Rattle.iff.specs.declared.File.the-variants.{Timetbls}
-use Rattle.iff_desk.specs.Amend.{tableBlocks, placeOf, rowsBefore, rowsBehind}
+use Rattle.iff_desk.specs.Amend.{placeOf, rowsBefore, rowsBehind}
 use Rattle.tables.proofs.First.{found, first-passing}
-use Rattle.tables.proofs.Keys.{has-keys}
 use Rattle.store.proofs.FirstLaws.{opens}
 
 -- what stands before the first block, and the rest

@@ -1,34 +1,32 @@
 -- A service's part of TIMETBLS is cut out of it at its first row. Assumes nothing.
-use Prim.Native.Nat.{ℕ, zero, suc, _+_, _-_, _*_, _/_, _≤_, _<_}
+use Prim.Native.Nat.{ℕ, suc, _+_, _-_, _*_, _/_, _≤_, _<_}
 use mathlib.Core.Path.{_≡_, refl, ap, sym, _∙_}
-use mathlib.Core.List.{List, [], _∷_, _++_, append-nil}
-use mathlib.Core.Bool.{Bool, true, false, true≢false}
+use mathlib.Core.List.{List, [], _∷_, append-nil}
+use mathlib.Core.Bool.{true, false}
 use native.Mathlib.Nat.{sub-zero, le-trans, mul-le-mul-right, div-mul-le-self}
 use native.Mathlib.Omega.{arith}
 use native.Mathlib.Numerals.{add-one}
 use lib.ListN.{length, getD, take, drop, length-drop}
 use lib.Seq.{drop-drop, length-take-le}
-use Rattle.iff.specs.Lists.{front, any, has}
-use Rattle.iff.specs.Tables.{Row, isHashRow, rowWidth, rowAt, joined, fill, rowsUpTo, rowsIn, keyTag, keyWord, keysOf, keyed, firstRow}
+use Rattle.iff.specs.Lists.{front, has}
+use Rattle.iff.specs.Tables.{Row, isHashRow, rowWidth, rowAt, fill, rowsUpTo, rowsIn, keysOf, firstRow}
 use Rattle.iff.specs.declared.File.the-variants.{Timetbls}
 use Rattle.iff.specs.declared.RowOf.{RowOf}
 use Rattle.iff.specs.declared.RowOf.the-variants.{Row as RowIs, NoRow}
-use Rattle.iff_desk.specs.Store.{groupOf}
-use Rattle.tables.proofs.Each.{Each}
 use Rattle.tables.proofs.First.{found, any-found, first-passing}
 use Rattle.tables.proofs.Keys.{has-keys}
-use Rattle.tables.proofs.Rows.{Used, rows-fewer, rows-most, rows-used}
+use Rattle.tables.proofs.Rows.{rows-fewer, rows-most, rows-used}
 use Rattle.tables.proofs.Filled.{joined-rows, rows-in-fill}
 use Rattle.keys.specs.Blocks.{rowsBetween}
-use Rattle.keys.specs.Lookup.{atMost, KeyRow}
+use Rattle.keys.specs.Lookup.{atMost}
 use Rattle.keys.proofs.Among.{at-most-all, as-found}
 use Rattle.keys.proofs.Blocks.{between-in-table, between-first}
 use Rattle.store.specs.Found.{Stored, GroupAt}
 use Rattle.store.specs.declared.Part.{Part}
 use Rattle.store.proofs.OnceLaws.{found-first}
-use Rattle.store.proofs.FirstLaws.{opens, groupFrom, group-first, used-fits, rows-from}
+use Rattle.store.proofs.FirstLaws.{opens, groupFrom, group-first, rows-from}
 use Rattle.service_places.specs.Placed.{servicesBefore, Placed}
-use Rattle.service_places.proofs.BlockLaws.{FirstAt, first-at, Cut, cut-at, keys-few}
+use Rattle.service_places.proofs.BlockLaws.{first-at, Cut, cut-at, keys-few}
 
 abbrev width : ℕ
 width = rowWidth Timetbls
@@ -63,7 +61,8 @@ module _ (t : List ℕ) (i : ℕ) (h : i ≤ length (rowsIn Timetbls t)) where
       ∙ front-between
 
   -- their services, counted there
-  pub counted-before : (n : ℕ) → n ≡ length (keysOf Timetbls (rowsIn Timetbls (take (i * width - 0) (drop 0 t)))) → n + 1 ≡ suc (length (servicesBefore t i))
+  pub counted-before : (n : ℕ) → n ≡ length (keysOf Timetbls (rowsIn Timetbls (take (i * width - 0) (drop 0 t))))
+      → n + 1 ≡ suc (length (servicesBefore t i))
   counted-before n e = ap (λ (k : ℕ). k + 1) e ∙ rw (sub-zero, rows-before, add-one)
 
   pub services-few : length (servicesBefore t i) ≤ i
@@ -128,7 +127,8 @@ module _ (s used : ℕ) (t : List ℕ) (p : Part) (o : Stored Timetbls used t) (
     behind-count =
         let q : rowsBetween width t (p .from) (p .to) ≡ getD rows (p .from - 0) [] ∷ front isHashRow (drop (suc (p .from - 0)) rows)
         = part-rows ∙ ap (groupFrom 0 rows) first-here in
-        let l : length (rowsBetween width t (p .from) (p .to)) ≡ suc (length (front isHashRow (drop (suc (p .from)) rows))) = rw sub-zero at (ap length q) in
+        let l : length (rowsBetween width t (p .from) (p .to)) ≡ suc (length (front isHashRow (drop (suc (p .from)) rows)))
+        = rw sub-zero at (ap length q) in
         omega (arith, part-count)
 
     before-here : rowsBetween width t 0 (p .from) ≡ take (p .from) rows

@@ -3,7 +3,7 @@ use mathlib.Core.Path.{refl, sym, _∙_}
 use native.Mathlib.Omega.{arith}
 use borrow.Author.Needs.{needs}
 use borrow.Author.Tests.{not-true, not-false}
-use Rattle.amend_tests.proofs.JudgeLaws.{not-one, stored, no-service, editable, size-refused, block-judged}
+use Rattle.amend_tests.proofs.JudgeLaws.{not-one, no-service, editable, size-refused, block-judged}
 use Rattle.amend_tests.proofs.judge.Statement.{statement}
 use Rattle.amend_tests.proofs.judge.Tie as tie
 

@@ -1,5 +1,4 @@
 -- `amend_tests::judge_block` meets its contract: the block's fault at its own ordinal, or its lines and stops. Assumes nothing.
-use mathlib.Core.Path.{refl}
 use borrow.Author.Needs.{needs}
 use Rattle.amend_tests.proofs.JudgeLaws.{block-broken, block-whole}
 use Rattle.amend_tests.proofs.judge_block.Statement.{statement}

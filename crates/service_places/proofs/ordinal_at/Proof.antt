@@ -1,5 +1,4 @@
 -- `service_places::ordinal_at` meets its contract: the rows before the block are a table of their own. Assumes nothing.
-use native.Mathlib.Omega.{arith}
 use borrow.Author.Needs.{needs}
 use Rattle.service_places.proofs.PlaceLaws.{front-fits, counted-before, services-few}
 use Rattle.service_places.proofs.ordinal_at.Statement.{statement}
