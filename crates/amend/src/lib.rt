@@ -35,7 +35,7 @@ fn amend_there(
         service,
         block,
     );
-    let services = keys::count_services(timetbls);
+    let services = fresh_keys::count_services(timetbls);
     amend_done::carry_out(judged, form, timetbls, block, services)
 }
 

@@ -23,7 +23,7 @@ use Rattle.iff_rules.specs.Load.{blockTest, blockStart, blockNext, blockVerdict
 use Rattle.references.specs.declared.BlockCounts.{BlockCounts}
 use Rattle.references.specs.Agree.{BlockKeysAmong}
 use Rattle.records.proofs.FileLaws.{row-tag}
-use Rattle.legs.specs.Sight.{LegibleBlock}
+use Rattle.block_legs.specs.Sight.{LegibleBlock}
 use Rattle.legs.proofs.RowLaws.{block-lines}
 use Rattle.blocks.specs.Lines.{keysFrom}
 use Rattle.blocks.specs.Drive.{drive, driveAt, drivenAt}

@@ -369,7 +369,7 @@ fn last_tests(block: &[u8], form: iff::Form, st: iff::InBlock, lines: u64) -> Ch
         return Checked::Broken(iff::Reason::Order, lines);
     }
     let stops = st.stops;
-    if !legs::are_right(block, form, stops) {
+    if !block_legs::are_right(block, form, stops) {
         return Checked::Broken(iff::Reason::Legs, 1);
     }
     Checked::Whole(lines, stops)

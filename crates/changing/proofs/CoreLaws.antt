@@ -18,19 +18,9 @@ use Rattle.iff_desk.specs.declared.Early.{Early}
 use Rattle.iff_desk.specs.declared.Early.the-variants.{SameService}
 use Rattle.iff_desk.specs.declared.Change.{Change}
 use Rattle.iff_desk.specs.declared.Change.the-variants.{ChangeRefused, NoBefore}
-use Rattle.changing.specs.Sides.{
-  rowsFound,
-  stopFound,
-  SideFor,
-  isSame,
-  laterHurdle,
-  verdictBy,
-  periodTests,
-  judgedOn,
-  laterOf,
-  laterChange,
-}
-use Rattle.changing.specs.declared.SideRows.{SideRows}
+use Rattle.changing.specs.Sides.{stopFound, SideFor, isSame, laterHurdle, verdictBy, periodTests, judgedOn, laterOf, laterChange}
+use Rattle.needed_times.specs.Needed.{rowsFound}
+use Rattle.needed_times.specs.declared.SideRows.{SideRows}
 
 -- 15
 module _ (pa pb : Row) (c : Change) where

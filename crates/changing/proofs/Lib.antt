@@ -1,6 +1,5 @@
 pub mod ZoneLaws
 pub mod GapLaws
 pub mod HurdleLaws
-pub mod NeededLaws
 pub mod CoreLaws
 pub mod AskLaws

@@ -14,7 +14,7 @@ use Rattle.iff_rules.specs.Rows.{firstOf}
 use Rattle.iff_desk.specs.Store.{periodOn}
 use Rattle.store.specs.Found.{Stored, rowOr, Stands}
 use Rattle.stop_times.specs.Times.{FewHours}
-use Rattle.changing.specs.declared.StoreCounts.{StoreCounts}
+use Rattle.needed_times.specs.declared.StoreCounts.{StoreCounts}
 
 -- ROWS THAT ARE THOSE OF THE LENT TABLES, and of the other files any: what tells the periods, what gives a needed time, and all
 pub record ZoneRows (R : PerFile (List Row)) (d tz st : List ℕ) : Type 0 where

@@ -4,25 +4,24 @@ use mathlib.Core.Path.{_≡_}
 use mathlib.Core.List.{List, [], _∷_}
 use mathlib.Core.Bool.{Bool, not, _&&_}
 use lib.Dec.{eqb, leb}
-use lib.IntN.{ℤ}
 use Rattle.iff.specs.Files.{PerFile}
 use Rattle.iff.specs.Refusals.{firstTest, unless}
 use Rattle.iff.specs.Tables.{Row, rowWidth, rowsIn}
-use Rattle.iff.specs.Words.{named, changeFlag, changeTime}
+use Rattle.iff.specs.Words.{named}
 use Rattle.iff.specs.declared.Reason.the-variants.{NoPeriod}
 use Rattle.iff.specs.declared.Test.{Test}
 use Rattle.iff.specs.declared.File.the-variants.{Timetbls}
 use Rattle.iff_rules.specs.Legs.{stopsOf}
-use Rattle.iff_desk.specs.Store.{serviceRows, groupOf, stopAt, stationRow, periodOn, isThere}
+use Rattle.iff_desk.specs.Store.{serviceRows, groupOf, stopAt, periodOn, isThere}
 use Rattle.iff_desk.specs.Running.{runsOn, asked, isLeg}
 use Rattle.iff_desk.specs.Stops.{mayAlight, mayBoard, timesBy}
-use Rattle.iff_desk.specs.Changing.{Side, Hurdle, stop, clear, stopIf, firstHurdle, ridingOn, pairAt, bestAt, core, gapBetween, afterHurdles, changeAfter}
+use Rattle.iff_desk.specs.Changing.{Side, Hurdle, stop, clear, stopIf, firstHurdle, gapBetween, afterHurdles, changeAfter}
 use Rattle.iff_desk.specs.declared.Call.{Call}
-use Rattle.iff_desk.specs.declared.Best.{Best}
 use Rattle.iff_desk.specs.declared.Change.{Change}
 use Rattle.iff_desk.specs.declared.Early.the-variants.{FromRests, ToRests, StationsDiffer, NobodyAlights, NobodyBoards}
-use Rattle.store.specs.Found.{rowsOf, rowOr, Inside, RowFor}
-use Rattle.changing.specs.declared.SideRows.{SideRows}
+use Rattle.store.specs.Found.{rowOr, Inside, RowFor}
+use Rattle.needed_times.specs.declared.SideRows.{SideRows}
+use Rattle.needed_times.specs.Needed.{rowsFound, verdictOn}
 use Rattle.changing.specs.declared.Visit.{Visit}
 use Rattle.changing.specs.declared.FirstNo.{FirstNo}
 use Rattle.changing.specs.declared.FirstNo.the-variants.{Stops, Clear}
@@ -31,11 +30,7 @@ use Rattle.changing.specs.declared.FirstNo.the-variants.{Stops, Clear}
 abbrev pub sideOf : Visit → Side
 sideOf v = record { service = v .service; stop = v .stop; date = v .date }
 
--- a service's rows that were found
-abbrev pub rowsFound : List ℕ → SideRows → List Row
-rowsFound t s = rowsOf (rowWidth Timetbls) t (s .part)
-
--- and its stop
+-- the stop that was found
 abbrev pub stopFound : List ℕ → SideRows → Row
 stopFound t s = rowOr (rowWidth Timetbls) t (s .row)
 
@@ -77,15 +72,6 @@ laterHurdle R aRows bRows A B =
 
 abbrev pub isSame : Call → Call → Bool
 isSame A B = eqb (A .service) (B .service) && eqb (A .day) (B .day)
-
--- THE NEEDED TIME, of two services' rows at a station
-abbrev pub bestFor : PerFile (List Row) → List Row → List Row → ℕ → Call → Call → Best
-bestFor R aRows bRows station A B = bestAt R station (ridingOn aRows (A .stop - 1)) (ridingOn bRows (B .stop)) (A .day)
-
-abbrev pub verdictOn : PerFile (List Row) → ℤ → List Row → List Row → ℕ → Call → Call → Change
-verdictOn R gap aRows bRows station A B =
-    core gap (pairAt R station (A .service) (B .service)) (changeFlag (stationRow R station)) (bestFor R aRows bRows station A B)
-    (changeTime (stationRow R station))
 
 -- the gap by two periods, and the verdict on it
 abbrev pub verdictBy : PerFile (List Row) → List Row → List Row → Row → Row → Row → Row → ℕ → Call → Call → Change

@@ -7,62 +7,39 @@ use iff::GroupFile;
 use iff::Reason;
 use iff::RowOf;
 use iff::Test;
-use iff::tags;
 use iff::words;
-use iff_desk::Best;
 use iff_desk::Call;
 use iff_desk::Change;
 use iff_desk::Early;
-use iff_desk::Pair;
-use iff_desk::Riding;
 use iff_desk::TimeOf;
-use store::Part;
+use needed_times::SideRows;
+use needed_times::StoreCounts;
 ghost use mathlib.Core.Path.{_≡_};
 ghost use mathlib.Core.List.{List};
 ghost use mathlib.Core.Bool.{_&&_};
-ghost use Prim.Native.Nat.{_-_, _<_};
+ghost use Prim.Native.Nat.{_<_};
 ghost use lib.Dec.{leb};
 ghost use Rattle.iff.specs.Days.{longest};
 ghost use Rattle.iff.specs.Files.{PerFile};
 ghost use Rattle.iff.specs.Tables.{Row, rowWidth, rowsIn};
-ghost use Rattle.iff.specs.Words.{named, changeFlag, changeTime};
 ghost use Rattle.iff.specs.declared.RowFile.the-variants.{Stations};
 ghost use Rattle.iff.specs.declared.GroupFile.the-variants.{Timezone, Footnote, Changes, Xfootnote, Xchanges};
 ghost use Rattle.iff.specs.declared.File.the-variants.{Delivery, Rows, Groups, Timetbls};
-ghost use Rattle.iff_desk.specs.Store.{recordOn, stationRow, numberOn};
+ghost use Rattle.iff_desk.specs.Store.{numberOn};
 ghost use Rattle.iff_desk.specs.Stops.{timesBy};
-ghost use Rattle.iff_desk.specs.Changing.{callOf, ridingOn, core, gapBetween, coreChange, precheck as precheckOf, changeAfter};
-ghost use Rattle.iff_desk.specs.declared.Pair.the-variants.{NoPair};
+ghost use Rattle.iff_desk.specs.Changing.{callOf, gapBetween, coreChange, precheck as precheckOf, changeAfter};
 ghost use Rattle.store.specs.Found.{Stored, rowsOf, rowOr, Inside};
 ghost use Rattle.stop_times.specs.Times.{FewMinutes};
+ghost use Rattle.needed_times.specs.Needed.{rowsFound};
 ghost use Rattle.changing.specs.Agree.{ZoneRows, NeedRows, RowsOf, ZonesReady, NeedReady, Ready, PeriodFor, Timed};
-ghost use Rattle.changing.specs.Sides.{SideFor, sideOf, rowsFound, stopFound, hurdleOf, runHurdle, stopHurdle, laterHurdle, isSame};
-ghost use Rattle.changing.specs.Sides.{bestFor, verdictOn, verdictBy, judgedOn, laterChange, askedFrom, askedTo};
-
-// Rows in use of the tables that a change reads.
-pub struct StoreCounts {
-    pub delivery: usize,
-    pub timezone: usize,
-    pub stations: usize,
-    pub footnote: usize,
-    pub timetbls: usize,
-    pub changes: usize,
-    pub xfootnote: usize,
-    pub xchanges: usize,
-}
+ghost use Rattle.changing.specs.Sides.{SideFor, sideOf, stopFound, hurdleOf, runHurdle, stopHurdle, laterHurdle, isSame};
+ghost use Rattle.changing.specs.Sides.{verdictBy, judgedOn, laterChange, askedFrom, askedTo};
 
 // One side of a change as it is asked: a service, a stop of it, and a date.
 pub struct Visit {
     pub service: u64,
     pub stop: u64,
     pub date: u64,
-}
-
-// One side as it was found: the service's rows, the row of the stop, and the station there.
-pub struct SideRows {
-    pub part: Part,
-    pub row: RowOf,
-    pub station: u64,
 }
 
 // The first No before a gap, or none.
@@ -72,33 +49,6 @@ pub enum FirstNo {
 }
 
 // SIDES
-
-// The leg that ends at a stop.
-fn leg_before(stop: u64) -> u64
-    ensures { λ r. ⌜ r ≡ stop - 1 ⌝ }
-{
-    if stop == 0 { 0 } else { stop - 1 }
-}
-
-// What the record of a kind names that a leg lies in.
-fn named_on(timetbls: &[u64], part: Part, kind: u64, leg: u64) -> u64
-    requires { ⌜ Inside (rowWidth Timetbls) (now timetbls) part ⌝ }
-    ensures { λ r. ⌜ r ≡ named (recordOn kind leg (rowsOf (rowWidth Timetbls) (now (timetbls .entry)) part)) ⌝ }
-{
-    let row = store::record_row(timetbls, part, kind, leg);
-    store::word_of(timetbls, tables::BLOCK_WIDTH, row, words::NAMED)
-}
-
-// Company and mode of a service on a leg.
-pub fn riding_on(timetbls: &[u64], part: Part, leg: u64) -> Riding
-    requires { ⌜ Inside (rowWidth Timetbls) (now timetbls) part ⌝ }
-    ensures { λ r. ⌜ r ≡ ridingOn (rowsOf (rowWidth Timetbls) (now (timetbls .entry)) part) leg ⌝ }
-{
-    Riding {
-        company: named_on(timetbls, part, tags::PERCENT, leg),
-        mode: named_on(timetbls, part, tags::AMPERSAND, leg),
-    }
-}
 
 // A service's rows, the row of its stop, and the station there.
 fn find_side(timetbls: &[u64], used: usize, places: &[u32], call: Call) -> SideRows
@@ -164,7 +114,7 @@ fn gap_of(arrival: TimeOf, arrival_day: u64, departure: TimeOf, departure_day: u
 {
     match arrival {
         TimeOf::At(_, from) => match departure {
-            TimeOf::At(_, to) => calendar::gap(from, arrival_day, to, departure_day),
+            TimeOf::At(_, to) => clock::gap(from, arrival_day, to, departure_day),
             TimeOf::NoTime => 0,
         },
         TimeOf::NoTime => 0,
@@ -238,7 +188,7 @@ fn run_hurdle(
         → hurdleOf r ≡ runHurdle R (rowsFound (now (timetbls .entry)) a) (rowsFound (now (timetbls .entry)) b) from to)
         ⌝ }
 {
-    let leg = leg_before(from.stop);
+    let leg = needed_times::leg_before(from.stop);
     if !running::runs_on(timetbls, a.part, footnotes, used, places, leg, from.day) {
         return FirstNo::Stops(Early::FromRests);
     }
@@ -296,160 +246,6 @@ fn later_hurdle(
     }
 }
 
-// THE NEEDED TIME
-
-// The best row of XCHANGES at the station, for A on leg i - 1 and B on leg j, on A's day.
-fn best_for(
-    timetbls: &[u64],
-    xfootnotes: &[u64],
-    xchanges: &[u64],
-    places: &[u32],
-    counts: StoreCounts,
-    a: SideRows,
-    b: SideRows,
-    from: Call,
-    to: Call,
-) -> Best
-    requires { ⌜
-        Stored (Groups Xfootnote) (counts .xfootnote) (now xfootnotes)
-        × Stored (Groups Xchanges) (counts .xchanges) (now xchanges)
-        × Inside (rowWidth Timetbls) (now timetbls) (a .part)
-        × Inside (rowWidth Timetbls) (now timetbls) (b .part)
-        ⌝ }
-    ensures { λ r. ⌜
-        ((R : PerFile (List Row))
-        → R .xfootnote ≡ rowsIn (Groups Xfootnote) (now (xfootnotes .entry))
-        → R .xchanges ≡ rowsIn (Groups Xchanges) (now (xchanges .entry))
-        → r ≡ bestFor R (rowsFound (now (timetbls .entry)) a) (rowsFound (now (timetbls .entry)) b) (a .station) from to)
-        ⌝ }
-{
-    let vector_day = from.day;
-    let leg = leg_before(from.stop);
-    let riding = riding_on(timetbls, a.part, leg);
-    let next = riding_on(timetbls, b.part, to.stop);
-    exceptions::best_at(
-        xchanges,
-        counts.xchanges,
-        xfootnotes,
-        counts.xfootnote,
-        places,
-        a.station,
-        riding,
-        next,
-        vector_day,
-    )
-}
-
-// Where the two services have no row of CHANGES at the station.
-fn without_pair(
-    gap: i32,
-    stations: &[u64],
-    timetbls: &[u64],
-    xfootnotes: &[u64],
-    xchanges: &[u64],
-    places: &[u32],
-    counts: StoreCounts,
-    a: SideRows,
-    b: SideRows,
-    from: Call,
-    to: Call,
-) -> Change
-    requires { ⌜
-        Stored (Rows Stations) (counts .stations) (now stations)
-        × Stored (Groups Xfootnote) (counts .xfootnote) (now xfootnotes)
-        × Stored (Groups Xchanges) (counts .xchanges) (now xchanges)
-        × Inside (rowWidth Timetbls) (now timetbls) (a .part)
-        × Inside (rowWidth Timetbls) (now timetbls) (b .part)
-        ⌝ }
-    ensures { λ r. ⌜
-        ((R : PerFile (List Row))
-        → R .stations ≡ rowsIn (Rows Stations) (now (stations .entry))
-        → R .xfootnote ≡ rowsIn (Groups Xfootnote) (now (xfootnotes .entry))
-        → R .xchanges ≡ rowsIn (Groups Xchanges) (now (xchanges .entry))
-        → r
-        ≡ core gap NoPair (changeFlag (stationRow R (a .station)))
-        (bestFor R (rowsFound (now (timetbls .entry)) a) (rowsFound (now (timetbls .entry)) b) (a .station) from to)
-        (changeTime (stationRow R (a .station))))
-        ⌝ }
-{
-    let row = store::find_station(stations, counts.stations, places, a.station);
-    let flag = store::word_of(stations, store::STATION_WIDTH, row, words::CHANGE_FLAG);
-    if flag == 0 {
-        return verdicts::core(gap, Pair::NoPair, 0, Best::NoBest, 0);
-    }
-    let time = store::word_of(stations, store::STATION_WIDTH, row, words::CHANGE_TIME);
-    let best = best_for(
-        timetbls,
-        xfootnotes,
-        xchanges,
-        places,
-        counts,
-        a,
-        b,
-        from,
-        to,
-    );
-    verdicts::core(gap, Pair::NoPair, flag, best, time)
-}
-
-// The verdict on a gap, by the first that gives a needed time or forbids the change.
-fn by_needed(
-    gap: i32,
-    stations: &[u64],
-    timetbls: &[u64],
-    changes: &[u64],
-    xfootnotes: &[u64],
-    xchanges: &[u64],
-    places: &[u32],
-    counts: StoreCounts,
-    a: SideRows,
-    b: SideRows,
-    from: Call,
-    to: Call,
-) -> Change
-    requires { ⌜
-        Stored (Rows Stations) (counts .stations) (now stations)
-        × Stored (Groups Changes) (counts .changes) (now changes)
-        × Stored (Groups Xfootnote) (counts .xfootnote) (now xfootnotes)
-        × Stored (Groups Xchanges) (counts .xchanges) (now xchanges)
-        × Inside (rowWidth Timetbls) (now timetbls) (a .part)
-        × Inside (rowWidth Timetbls) (now timetbls) (b .part)
-        ⌝ }
-    ensures { λ r. ⌜
-        ((R : PerFile (List Row))
-        → R .stations ≡ rowsIn (Rows Stations) (now (stations .entry))
-        → R .changes ≡ rowsIn (Groups Changes) (now (changes .entry))
-        → R .xfootnote ≡ rowsIn (Groups Xfootnote) (now (xfootnotes .entry))
-        → R .xchanges ≡ rowsIn (Groups Xchanges) (now (xchanges .entry))
-        → r ≡ verdictOn R gap (rowsFound (now (timetbls .entry)) a) (rowsFound (now (timetbls .entry)) b) (a .station) from to)
-        ⌝ }
-{
-    let pair = exceptions::pair_at(
-        changes,
-        counts.changes,
-        places,
-        a.station,
-        from.service,
-        to.service,
-    );
-    match pair {
-        Pair::Possibility(p) => verdicts::core(gap, Pair::Possibility(p), 0, Best::NoBest, 0),
-        Pair::NoPair => without_pair(
-            gap,
-            stations,
-            timetbls,
-            xfootnotes,
-            xchanges,
-            places,
-            counts,
-            a,
-            b,
-            from,
-            to,
-        ),
-    }
-}
-
 // THE CORE
 
 // The gap by the periods of both stations, and the verdict on it.
@@ -503,7 +299,7 @@ fn weighed(
         board,
         to.day,
     );
-    by_needed(
+    needed_times::by_needed(
         gap,
         stations,
         timetbls,

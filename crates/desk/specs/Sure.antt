@@ -12,7 +12,7 @@ use Rattle.iff.specs.declared.File.the-variants.{Delivery, Rows, Groups, Timetb
 use Rattle.iff_desk.specs.Sound.{distinct}
 use Rattle.stop_times.specs.Times.{FewHours}
 use Rattle.changing.specs.Agree.{FewDays}
-use Rattle.changing.specs.declared.StoreCounts.{StoreCounts}
+use Rattle.needed_times.specs.declared.StoreCounts.{StoreCounts}
 
 -- no key comes twice
 abbrev pub Once : File → List ℕ → Type 0

@@ -1,6 +1,5 @@
 // The desk's questions over eleven lent tables of any length and content, which nothing is written to. "Calls that are lent a loaded store test 16 first":
 // the index of keys that the test fills is where the questions look.
-use changing::StoreCounts;
 use changing::Visit;
 use iff::File;
 use iff::GroupFile;
@@ -9,6 +8,7 @@ use iff::RowFile;
 use iff_desk::Change;
 use iff_desk::Running;
 use iff_desk::StopTime;
+use needed_times::StoreCounts;
 ghost use mathlib.Core.Path.{_≡_};
 ghost use mathlib.Core.List.{List};
 ghost use Rattle.iff.specs.Files.{PerFile, eleven};

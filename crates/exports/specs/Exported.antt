@@ -11,7 +11,9 @@ use Rattle.iff_desk.specs.Amend.{amendAnswer, amendTimetbls}
 use Rattle.iff_desk.specs.Parts.{name, nameTest, isOneBlock, linesNow, linesNowTest}
 use Rattle.iff_desk.specs.declared.StopTime.{StopTime}
 use Rattle.iff_desk.specs.declared.Change.{Change}
-use Rattle.answers.specs.Numbers.{answerWords, partWords, linesWords, stopTimeWords, stopTimeMinutes, changeWords, changeGap}
+use Rattle.numbers.specs.Numbers.{answerWords}
+use Rattle.question_numbers.specs.Numbers.{partWords, linesWords, stopTimeWords, stopTimeMinutes}
+use Rattle.change_numbers.specs.Numbers.{changeWords, changeGap}
 use Rattle.parts.specs.Bounds.{partOf, Inside, namePart, textNow, partNow}
 
 -- A LOAD, as `load::load` promises it, with its answer in numbers

@@ -7,7 +7,7 @@ ghost use Rattle.iff_desk.specs.Sound.{sound as areSound};
 ghost use Rattle.iff_desk.specs.Running.{runningDay};
 ghost use Rattle.iff_desk.specs.Stops.{stopTime};
 ghost use Rattle.iff_desk.specs.Changing.{change as changeTo};
-ghost use Rattle.answers.specs.Numbers.{soundNumber, runningWords};
+ghost use Rattle.question_numbers.specs.Numbers.{soundNumber, runningWords};
 ghost use Rattle.exports.specs.Exported.{LoadedInNumbers, AmendedInNumbers, NamedInNumbers, LinesInNumbers, TimedInNumbers, ChangedInNumbers};
 
 // A load: eleven files, eleven tables, and where the answer goes. It asks nothing of them.
@@ -74,7 +74,7 @@ pub extern "C" fn calyxcabin_load(
         t_xfootnote,
         t_xchanges,
     );
-    *answer = answers::words_of(loaded);
+    *answer = numbers::words_of(loaded);
 }
 
 // An amendment: eleven tables, of which TIMETBLS is written where it is accepted, a service and its block, and where the answer goes. It asks nothing
@@ -117,7 +117,7 @@ pub extern "C" fn calyxcabin_amend(
         service,
         block,
     );
-    *answer = answers::words_of(amended);
+    *answer = numbers::words_of(amended);
 }
 
 // A station's name: the file it stands in, its short name, and where the answer goes.
@@ -127,7 +127,7 @@ pub extern "C" fn calyxcabin_name(stations: &[u8], short: u64, answer: &mut [u64
 {
     let part = parts::name_part(stations, short);
     let test = part.test;
-    *answer = answers::part_words(test, part.from, part.to);
+    *answer = question_numbers::part_words(test, part.from, part.to);
 }
 
 // A service's lines now: the TIMETBLS file, an amendment's block or an empty one, and where the answer goes.
@@ -141,12 +141,12 @@ pub extern "C" fn calyxcabin_lines_now(
     ensures { λ _. ⌜ LinesInNumbers (now (text .entry)) (now (block .entry)) service (now (answer .exit)) ⌝ }
 {
     if parts::is_one_block(block, service) {
-        *answer = answers::lines_words(Test::Passes, true, 0, block.len());
+        *answer = question_numbers::lines_words(Test::Passes, true, 0, block.len());
         return;
     }
     let part = parts::lines_part(text, service);
     let test = part.test;
-    *answer = answers::lines_words(test, false, part.from, part.to);
+    *answer = question_numbers::lines_words(test, false, part.from, part.to);
 }
 
 // 16: whether eleven tables are sound, 0 or 16. Every question below tests it first.
@@ -182,7 +182,7 @@ pub extern "C" fn calyxcabin_is_sound(
         xfootnote,
         xchanges,
     );
-    answers::sound_number(sound)
+    question_numbers::sound_number(sound)
 }
 
 // Running day: eleven tables, service, leg and date, and where the answer goes.
@@ -226,7 +226,7 @@ pub extern "C" fn calyxcabin_running_day(
         leg,
         date,
     );
-    *answer = answers::running_words(told);
+    *answer = question_numbers::running_words(told);
 }
 
 // Stop time: eleven tables, service, stop and date, and where the answer and its minutes go.
@@ -271,8 +271,8 @@ pub extern "C" fn calyxcabin_stop_time(
         stop,
         date,
     );
-    *answer = answers::stop_time_words(told);
-    *minutes = answers::stop_time_minutes(told);
+    *answer = question_numbers::stop_time_words(told);
+    *minutes = question_numbers::stop_time_minutes(told);
 }
 
 // Change: eleven tables, a service, a stop of it and its date, the same for the other service, and where the answer and the gap go.
@@ -324,6 +324,6 @@ pub extern "C" fn calyxcabin_change(
         to_stop,
         to_date,
     );
-    *answer = answers::change_words(told);
-    *gap = answers::change_gap(told);
+    *answer = change_numbers::change_words(told);
+    *gap = change_numbers::change_gap(told);
 }

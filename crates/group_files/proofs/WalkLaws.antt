@@ -33,10 +33,10 @@ use Rattle.tables.proofs.Rows.{Used, row-inside}
 use Rattle.tables.proofs.Filled.{fill-next}
 use Rattle.tables.proofs.Widths.{widths}
 use Rattle.keys.specs.Lookup.{keysIn}
-use Rattle.keys.specs.Runs.{noKeys, runOf}
-use Rattle.keys.specs.declared.KeyRun.{KeyRun}
-use Rattle.keys.proofs.Runs.{run-rises}
-use Rattle.keys.proofs.Fills.{keys-in-fill, keys-same, run-key}
+use Rattle.fresh_keys.specs.Runs.{noKeys, runOf}
+use Rattle.fresh_keys.specs.declared.KeyRun.{KeyRun}
+use Rattle.fresh_keys.proofs.Runs.{run-rises, run-key}
+use Rattle.keys.proofs.Fills.{keys-in-fill, keys-same}
 use Rattle.keys.proofs.Blocks.{between-in-fill}
 use Rattle.reading.specs.Reading.{RowsDone}
 use Rattle.reading.specs.declared.RowsRead.{RowsRead}

@@ -55,7 +55,7 @@ fn add_groups(
 {
     let mut at = from;
     let mut read: usize = 0;
-    let mut group = group_lines::opening(keys::no_keys());
+    let mut group = group_lines::opening(fresh_keys::no_keys());
     while at < text.len() {
         let s = text::line_at(text, at);
         let end = s.end;

@@ -22,7 +22,7 @@ use Rattle.iff_rules.specs.Rows.{rowOf, Context}
 use Rattle.iff_rules.specs.Load.{groupTest}
 use Rattle.keys.specs.Lookup.{keysIn}
 use Rattle.keys.specs.Blocks.{blockOfRows}
-use Rattle.keys.specs.declared.KeyRun.{KeyRun}
+use Rattle.fresh_keys.specs.declared.KeyRun.{KeyRun}
 use Rattle.group_lines.specs.Tests.{groupRowTest, lineVerdict}
 use Rattle.group_lines.specs.Facts.{openRows, Beside, opening, groupFor, runAfter, openAfter}
 use Rattle.group_lines.specs.Facts.{RowMade, RowTested, addDue, lineDue, LineDone}

@@ -27,9 +27,9 @@ use Rattle.iff_rules.specs.Rows.{rowOf, Context}
 use Rattle.iff_rules.specs.Load.{groupTest}
 use Rattle.records.specs.Layouts.{layoutTest}
 use Rattle.keys.specs.Lookup.{keysIn}
-use Rattle.keys.specs.Runs.{stepRun, runOf}
+use Rattle.fresh_keys.specs.Runs.{stepRun, runOf}
 use Rattle.keys.specs.Blocks.{rowsBetween}
-use Rattle.keys.specs.declared.KeyRun.{KeyRun}
+use Rattle.fresh_keys.specs.declared.KeyRun.{KeyRun}
 use Rattle.group_lines.specs.Tests.{placeTest, lineVerdict}
 use Rattle.group_lines.specs.declared.Open.{Open}
 use Rattle.group_lines.specs.declared.LinePut.{LinePut}

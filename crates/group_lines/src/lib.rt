@@ -1,11 +1,11 @@
 // One line of a group, in TIMEZONE, FOOTNOTE, CHANGES, XFOOTNOTE or XCHANGES: its tests in their order, and its row into the table.
+use fresh_keys::KeyRun;
 use iff::File;
 use iff::Form;
 use iff::GroupFile;
 use iff::GroupStand;
 use iff::Reason;
 use iff::Test;
-use keys::KeyRun;
 use references::GroupCounts;
 ghost use mathlib.Core.Path.{_≡_};
 ghost use mathlib.Core.Bool.{_&&_};
@@ -92,7 +92,7 @@ fn is_unique(file: GroupFile, rows: usize, group: Open, row: &[u64], t: &[u64]) 
 {
     if row[iff::words::TAG] == iff::tags::HASH {
         let run = group.run;
-        return keys::is_fresh(File::Groups(file), run, t, row[iff::words::NAMED]);
+        return fresh_keys::is_fresh(File::Groups(file), run, t, row[iff::words::NAMED]);
     }
     let from = rows - group.size + 1;
     clashes::fresh_in_group(file, t, from, rows, row)
@@ -190,7 +190,7 @@ fn run_after(run: KeyRun, tag: u64, key: u64) -> KeyRun
     ensures { λ r. ⌜ r ≡ runAfter run tag key ⌝ }
 {
     if tag == iff::tags::HASH {
-        return keys::next_run(run, key);
+        return fresh_keys::next_run(run, key);
     }
     run
 }

@@ -11,10 +11,10 @@ use Rattle.iff.specs.declared.GroupFile.the-variants.{Timezone, Footnote, Chang
 use Rattle.iff.specs.declared.File.{File}
 use Rattle.iff.specs.declared.File.the-variants.{Delivery, Rows, Groups, Timetbls}
 use Rattle.iff_rules.specs.Load.{loadAnswer, presentIn}
-use Rattle.iff_cases.specs.Claims.{Claim, claim, Hold, each}
-use Rattle.iff_cases.specs.Opened.{opened}
-use Rattle.iff_cases.specs.Delivery.{small, instead, at, edit, files, short, header}
-use Rattle.iff_cases.specs.Shown.{Shown, accepted, refused, DELIVERY, COMPANY, TIMETBLS, XFOOTNOTE, XCHANGES, file, load, shown, roomFor, roomy}
+use Rattle.small_delivery.specs.Claims.{Claim, claim, Hold, each}
+use Rattle.small_delivery.specs.Opened.{opened}
+use Rattle.small_delivery.specs.Delivery.{small, instead, at, edit, files, short, header}
+use Rattle.small_delivery.specs.Shown.{Shown, accepted, refused, DELIVERY, COMPANY, TIMETBLS, XFOOTNOTE, XCHANGES, file, load, shown, roomFor, roomy}
 
 -- what is said of each file by its kind, in their order
 abbrev pub kinds : List Claim

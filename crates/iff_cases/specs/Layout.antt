@@ -12,11 +12,11 @@ use Rattle.iff.specs.declared.Record.the-variants.{Passed, Platform, ChangeHead
 use Rattle.iff.specs.declared.RowFile.the-variants.{Company, Country, Trnsmode, Stations}
 use Rattle.iff.specs.declared.GroupFile.the-variants.{Timezone, Footnote, Changes, Xfootnote, Xchanges}
 use Rattle.iff.specs.declared.File.the-variants.{Delivery, Rows, Groups, Timetbls}
-use Rattle.iff_cases.specs.Claims.{Claim, claim, Hold}
-use Rattle.iff_cases.specs.Opened.{opened}
-use Rattle.iff_cases.specs.Delivery.{small, put, insert, at, edit, files, short}
-use Rattle.iff_cases.specs.Shown.{accepted, refused, DELIVERY, COMPANY, COUNTRY, TRNSMODE, TIMEZONE, STATIONS, FOOTNOTE, TIMETBLS, CHANGES}
-use Rattle.iff_cases.specs.Shown.{XFOOTNOTE, XCHANGES, load, loadOf}
+use Rattle.small_delivery.specs.Claims.{Claim, claim, Hold}
+use Rattle.small_delivery.specs.Opened.{opened}
+use Rattle.small_delivery.specs.Delivery.{small, put, insert, at, edit, files, short}
+use Rattle.small_delivery.specs.Shown.{accepted, refused, DELIVERY, COMPANY, COUNTRY, TRNSMODE, TIMEZONE, STATIONS, FOOTNOTE, TIMETBLS, CHANGES}
+use Rattle.small_delivery.specs.Shown.{XFOOTNOTE, XCHANGES, load, loadOf}
 
 -- the Columns table, from the first line's record to XCHANGES' row
 abbrev records : List Record

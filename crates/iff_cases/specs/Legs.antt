@@ -3,10 +3,10 @@ use Prim.{tt}
 use mathlib.Core.Path.{refl}
 use mathlib.Core.List.{List, [], _∷_}
 use Rattle.iff.specs.declared.File.the-variants.{Timetbls}
-use Rattle.iff_cases.specs.Claims.{Claim, claim, Hold}
-use Rattle.iff_cases.specs.Opened.{opened}
-use Rattle.iff_cases.specs.Delivery.{put, insert, at, edit}
-use Rattle.iff_cases.specs.Shown.{accepted, refused, TIMETBLS, load}
+use Rattle.small_delivery.specs.Claims.{Claim, claim, Hold}
+use Rattle.small_delivery.specs.Opened.{opened}
+use Rattle.small_delivery.specs.Delivery.{put, insert, at, edit}
+use Rattle.small_delivery.specs.Shown.{accepted, refused, TIMETBLS, load}
 
 -- "Legs"
 abbrev pub ranges : List Claim

@@ -1,11 +1,4 @@
-pub mod Text
-pub mod Delivery
-pub mod Opened
-pub mod Claims
-pub mod Shown
-pub mod Check
 pub mod Settled
-pub mod Stored
 pub mod Loading
 pub mod Values
 pub mod Unique
@@ -15,14 +8,4 @@ pub mod Legs
 pub mod Layout
 pub mod Files
 pub mod Turn
-pub mod RunningCases
-pub mod StopCases
-pub mod ChangeCases
-pub mod PartCases
-pub mod AmendCases
-pub mod Soundness
-pub mod SoundRules
-pub mod TooLong
 pub mod LineCases
-pub mod AnswerCases
-pub mod Borders

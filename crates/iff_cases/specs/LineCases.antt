@@ -7,8 +7,8 @@ use mathlib.Core.Bool.{Bool, true, false}
 use Rattle.iff.specs.Lines.{Line, lines, eolAt}
 use Rattle.iff.specs.declared.Eol.the-variants.{Ended, Unended}
 use Rattle.iff.specs.Bytes.{bytes}
-use Rattle.iff_cases.specs.Claims.{Claim, claim, Hold}
-use Rattle.iff_cases.specs.Opened.{opened}
+use Rattle.small_delivery.specs.Claims.{Claim, claim, Hold}
+use Rattle.small_delivery.specs.Opened.{opened}
 
 -- a line's bytes, and whether CR LF ends it
 abbrev line : String → Bool → Line

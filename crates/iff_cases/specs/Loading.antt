@@ -16,12 +16,12 @@ use Rattle.iff.specs.declared.Place.the-variants.{At}
 use Rattle.iff.specs.declared.Verdict.the-variants.{Fine, Fault}
 use Rattle.iff_rules.specs.Rows.{rowsOfFiles}
 use Rattle.iff_rules.specs.Load.{loadVerdict, loadAnswer, filled, loadTable}
-use Rattle.iff_cases.specs.Claims.{Claim, claim, Holds, Hold, each, each-hold}
-use Rattle.iff_cases.specs.Opened.{opened}
-use Rattle.iff_cases.specs.Delivery.{small, files, put, edit}
-use Rattle.iff_cases.specs.Shown.{accepted, refused, shown, XCHANGES, file}
-use Rattle.iff_cases.specs.Check.{eightHundred, lastStop, checked}
-use Rattle.iff_cases.specs.Stored.{stored, rooms}
+use Rattle.small_delivery.specs.Claims.{Claim, claim, Holds, Hold, each, each-hold}
+use Rattle.small_delivery.specs.Opened.{opened}
+use Rattle.small_delivery.specs.Delivery.{small, files, put, edit}
+use Rattle.small_delivery.specs.Shown.{accepted, refused, shown, XCHANGES, file}
+use Rattle.small_delivery.specs.Check.{eightHundred, lastStop, checked}
+use Rattle.small_delivery.specs.Stored.{stored, rooms}
 
 -- the table of a load that finds no fault, and of one that finds one
 accepted-table : (F : PerFile (List ℕ)) (R : PerFile ℕ) → loadVerdict F R ≡ Fine

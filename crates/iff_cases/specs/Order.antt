@@ -14,11 +14,11 @@ use Rattle.iff.specs.declared.File.the-variants.{Delivery, Rows, Groups, Timetb
 use Rattle.iff.specs.declared.GroupStand.{GroupStand}
 use Rattle.iff.specs.declared.GroupStand.the-variants.{Opening, Opened, Going}
 use Rattle.iff_rules.specs.Order.{knownInGroup, knownInBlock, groupTag, mayFollow, groupMoves, groupStand, mayEnd}
-use Rattle.iff_cases.specs.Claims.{Claim, claim, Hold}
-use Rattle.iff_cases.specs.Opened.{opened}
-use Rattle.iff_cases.specs.Delivery.{put, insert, omit, instead, at, edit, header}
-use Rattle.iff_cases.specs.Shown.{accepted, refused, DELIVERY, COMPANY, TIMEZONE, STATIONS, FOOTNOTE, TIMETBLS, CHANGES, XFOOTNOTE, XCHANGES}
-use Rattle.iff_cases.specs.Shown.{load}
+use Rattle.small_delivery.specs.Claims.{Claim, claim, Hold}
+use Rattle.small_delivery.specs.Opened.{opened}
+use Rattle.small_delivery.specs.Delivery.{put, insert, omit, instead, at, edit, header}
+use Rattle.small_delivery.specs.Shown.{accepted, refused, DELIVERY, COMPANY, TIMEZONE, STATIONS, FOOTNOTE, TIMETBLS, CHANGES, XFOOTNOTE, XCHANGES}
+use Rattle.small_delivery.specs.Shown.{load}
 
 -- "Order": groups
 abbrev pub groups : List Claim

@@ -5,10 +5,10 @@ use mathlib.Core.List.{List, [], _∷_}
 use Rattle.iff.specs.declared.RowFile.the-variants.{Company, Country, Stations}
 use Rattle.iff.specs.declared.GroupFile.the-variants.{Timezone, Footnote, Changes, Xfootnote, Xchanges}
 use Rattle.iff.specs.declared.File.the-variants.{Rows, Groups, Timetbls}
-use Rattle.iff_cases.specs.Claims.{Claim, claim, Hold}
-use Rattle.iff_cases.specs.Opened.{opened}
-use Rattle.iff_cases.specs.Delivery.{small, put, insert, omit, at, edit, headed}
-use Rattle.iff_cases.specs.Shown.{accepted, refused, DELIVERY, COMPANY, STATIONS, TIMETBLS, CHANGES, XCHANGES, load}
+use Rattle.small_delivery.specs.Claims.{Claim, claim, Hold}
+use Rattle.small_delivery.specs.Opened.{opened}
+use Rattle.small_delivery.specs.Delivery.{small, put, insert, omit, at, edit, headed}
+use Rattle.small_delivery.specs.Shown.{accepted, refused, DELIVERY, COMPANY, STATIONS, TIMETBLS, CHANGES, XCHANGES, load}
 
 -- "References": stations and blocks
 abbrev pub named : List Claim

@@ -18,11 +18,11 @@ use Rattle.iff_desk.specs.declared.Source.the-variants.{FromChanges, FromStatio
 use Rattle.iff_desk.specs.declared.Change.the-variants.{NoShort, Yes, Unsettled}
 use Rattle.iff_desk.specs.declared.Pair.the-variants.{Possibility, NoPair}
 use Rattle.iff_desk.specs.declared.Best.the-variants.{BestRow, NoBest}
-use Rattle.iff_cases.specs.Claims.{Claim, claim, Hold, both-hold}
-use Rattle.iff_cases.specs.Opened.{opened}
-use Rattle.iff_cases.specs.Shown.{accepted, refused, DELIVERY, TIMETBLS, loadOf}
-use Rattle.iff_cases.specs.Stored.{AAA, BBB, CCC}
-use Rattle.iff_cases.specs.Check.{eightHundred, eightHundredAndOne, lastStop, checked}
+use Rattle.small_delivery.specs.Claims.{Claim, claim, Hold, both-hold}
+use Rattle.small_delivery.specs.Opened.{opened}
+use Rattle.small_delivery.specs.Shown.{accepted, refused, DELIVERY, TIMETBLS, loadOf}
+use Rattle.small_delivery.specs.Stored.{AAA, BBB, CCC}
+use Rattle.small_delivery.specs.Check.{eightHundred, eightHundredAndOne, lastStop, checked}
 
 -- P3: the row of a first line of those days
 abbrev firstRow : ℕ → Row

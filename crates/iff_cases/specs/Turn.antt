@@ -5,11 +5,11 @@ use mathlib.Core.List.{List, [], _∷_}
 use Rattle.iff.specs.declared.RowFile.the-variants.{Company, Country, Stations}
 use Rattle.iff.specs.declared.GroupFile.the-variants.{Timezone, Footnote, Changes, Xfootnote, Xchanges}
 use Rattle.iff.specs.declared.File.the-variants.{Delivery, Rows, Groups, Timetbls}
-use Rattle.iff_cases.specs.Claims.{Claim, claim, Hold}
-use Rattle.iff_cases.specs.Opened.{opened}
-use Rattle.iff_cases.specs.Delivery.{small, put, insert, omit, instead, at, edit, files}
-use Rattle.iff_cases.specs.Shown.{refused, COMPANY, COUNTRY, TIMEZONE, STATIONS, FOOTNOTE, TIMETBLS, CHANGES, XFOOTNOTE, XCHANGES, load, shown}
-use Rattle.iff_cases.specs.Shown.{roomy}
+use Rattle.small_delivery.specs.Claims.{Claim, claim, Hold}
+use Rattle.small_delivery.specs.Opened.{opened}
+use Rattle.small_delivery.specs.Delivery.{small, put, insert, omit, instead, at, edit, files}
+use Rattle.small_delivery.specs.Shown.{refused, COMPANY, COUNTRY, TIMEZONE, STATIONS, FOOTNOTE, TIMETBLS, CHANGES, XFOOTNOTE, XCHANGES, load, shown}
+use Rattle.small_delivery.specs.Shown.{roomy}
 use Rattle.iff_rules.specs.Load.{loadAnswer}
 
 -- the order of files and lines

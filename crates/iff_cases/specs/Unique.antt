@@ -5,11 +5,11 @@ use mathlib.Core.List.{List, [], _∷_}
 use Rattle.iff.specs.declared.RowFile.the-variants.{Company, Country, Trnsmode, Stations}
 use Rattle.iff.specs.declared.GroupFile.the-variants.{Timezone, Footnote, Changes, Xfootnote, Xchanges}
 use Rattle.iff.specs.declared.File.the-variants.{Rows, Groups, Timetbls}
-use Rattle.iff_cases.specs.Claims.{Claim, claim, Hold}
-use Rattle.iff_cases.specs.Opened.{opened}
-use Rattle.iff_cases.specs.Delivery.{small, put, insert, at, edit}
-use Rattle.iff_cases.specs.Shown.{accepted, refused, COMPANY, COUNTRY, TRNSMODE, TIMEZONE, STATIONS, FOOTNOTE, TIMETBLS, CHANGES, XFOOTNOTE}
-use Rattle.iff_cases.specs.Shown.{XCHANGES, load}
+use Rattle.small_delivery.specs.Claims.{Claim, claim, Hold}
+use Rattle.small_delivery.specs.Opened.{opened}
+use Rattle.small_delivery.specs.Delivery.{small, put, insert, at, edit}
+use Rattle.small_delivery.specs.Shown.{accepted, refused, COMPANY, COUNTRY, TRNSMODE, TIMEZONE, STATIONS, FOOTNOTE, TIMETBLS, CHANGES, XFOOTNOTE}
+use Rattle.small_delivery.specs.Shown.{XCHANGES, load}
 
 -- "Unique": keys and texts
 abbrev pub keysOnce : List Claim

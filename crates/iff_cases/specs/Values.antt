@@ -5,18 +5,18 @@ use mathlib.Core.List.{List, [], _∷_, _++_}
 use Rattle.iff.specs.declared.RowFile.the-variants.{Company, Country, Trnsmode, Stations}
 use Rattle.iff.specs.declared.GroupFile.the-variants.{Timezone, Footnote, Changes, Xfootnote, Xchanges}
 use Rattle.iff.specs.declared.File.the-variants.{Delivery, Rows, Groups, Timetbls}
-use Rattle.iff_cases.specs.Claims.{Claim, claim, Hold}
-use Rattle.iff_cases.specs.Opened.{opened}
-use Rattle.iff_cases.specs.Delivery.{small, put, insert, at, edit, files, headed, header}
-use Rattle.iff_cases.specs.Shown.{accepted, refused, DELIVERY, COMPANY, COUNTRY, TRNSMODE, TIMEZONE, STATIONS, FOOTNOTE, TIMETBLS, CHANGES}
-use Rattle.iff_cases.specs.Shown.{XFOOTNOTE, XCHANGES, roomFor, load, loadOf, Shown, shown}
+use Rattle.small_delivery.specs.Claims.{Claim, claim, Hold}
+use Rattle.small_delivery.specs.Opened.{opened}
+use Rattle.small_delivery.specs.Delivery.{small, put, insert, at, edit, files, headed, header}
+use Rattle.small_delivery.specs.Shown.{accepted, refused, DELIVERY, COMPANY, COUNTRY, TRNSMODE, TIMEZONE, STATIONS, FOOTNOTE, TIMETBLS, CHANGES}
+use Rattle.small_delivery.specs.Shown.{XFOOTNOTE, XCHANGES, roomFor, load, loadOf, Shown, shown}
 use Prim.Native.Nat.{ℕ, zero, suc, _+_, _/_, _%_}
 use Prim.Native.String.{String}
 use lib.ListN.{replicate}
 use Rattle.iff.specs.Files.{PerFile, perFile}
 use Rattle.iff_rules.specs.Load.{loadAnswer}
 use Rattle.iff.specs.Bytes.{bytes}
-use Rattle.iff_cases.specs.Text.{textOf, linesOf}
+use Rattle.small_delivery.specs.Text.{textOf, linesOf}
 
 -- n modes with two digits as their codes and texts, from number k on
 abbrev twoDigits : ℕ → List ℕ

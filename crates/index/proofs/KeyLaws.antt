@@ -14,15 +14,15 @@ use Rattle.iff.specs.Refusals.{after}
 use Rattle.iff.specs.Tables.{Row, word, rowWidth, rowAt, keyTag, keyWord, keysOf}
 use Rattle.iff_desk.specs.Sound.{distinct, passes}
 use Rattle.tables.proofs.Rows.{row-inside}
-use Rattle.keys.specs.declared.KeyRun.{KeyRun}
+use Rattle.fresh_keys.specs.declared.KeyRun.{KeyRun}
 use Rattle.keys.specs.Blocks.{blockOfRows, rowsBetween}
 use Rattle.keys.specs.Lookup.{isKeyRow, keysAmong}
 use Rattle.keys.specs.Places.{probes, placeOf}
-use Rattle.keys.specs.Runs.{noKeys, stepRun, runOf}
+use Rattle.fresh_keys.specs.Runs.{noKeys, stepRun, runOf}
 use Rattle.keys.proofs.Among.{keys-there}
 use Rattle.keys.proofs.Blocks.{between-first, between-next}
 use Rattle.keys.proofs.Fills.{keys-next, keys-same}
-use Rattle.keys.proofs.Runs.{run-rises}
+use Rattle.fresh_keys.proofs.Runs.{run-rises}
 use Rattle.index.specs.Told.{KeysTold}
 use Rattle.index.specs.Slots.{lastRow, namesAt, keyAt, keysBetween, Stands, PassedFor, FirstFree}
 use Rattle.index.specs.Keying.{allNew, AtRow, KeyPut, Told, RowPut, Indexed}

@@ -16,7 +16,7 @@ use Rattle.keys.specs.Blocks.{blockOfRows, rowsBetween}
 use Rattle.keys.specs.Places.{probes, placeOf}
 use Rattle.keys.proofs.Among.{any-row}
 use Rattle.keys.proofs.PlaceLaws.{place-inside}
-use Rattle.keys.proofs.Runs.{and-left, and-right}
+use Rattle.fresh_keys.proofs.Runs.{and-left, and-right}
 use Rattle.index.specs.Slots.{lastRow, namesAt, keyAt, keysBetween, PutBefore, Stands, Index}
 use Rattle.index.specs.Slots.{earlier, Passed, AllPassed, PassedFor, FirstFree, Probed}
 use Rattle.index.specs.declared.Met.the-variants.{Free, Taken, Full}

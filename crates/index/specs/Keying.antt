@@ -9,9 +9,9 @@ use Rattle.iff.specs.Lists.{has}
 use Rattle.iff.specs.Refusals.{after}
 use Rattle.iff.specs.Tables.{rowWidth}
 use Rattle.iff_desk.specs.Sound.{distinct, passes, followedBy}
-use Rattle.keys.specs.declared.KeyRun.{KeyRun}
+use Rattle.fresh_keys.specs.declared.KeyRun.{KeyRun}
 use Rattle.keys.specs.Lookup.{keysAmong}
-use Rattle.keys.specs.Runs.{stepRun, runOf}
+use Rattle.fresh_keys.specs.Runs.{stepRun, runOf}
 use Rattle.index.specs.declared.Next.{Next}
 use Rattle.index.specs.declared.Next.the-variants.{Came, Goes}
 use Rattle.index.specs.Slots.{namesAt, keysBetween, Index}

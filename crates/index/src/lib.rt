@@ -27,7 +27,7 @@ enum Met {
 // What a row leaves: its key came before, or the run of the keys so far.
 enum Next {
     Came,
-    Goes(keys::KeyRun),
+    Goes(fresh_keys::KeyRun),
 }
 
 // A number that was met in a slot is a row before row `i` with this tag and key. Other tables' rows may stand there too.
@@ -88,7 +88,13 @@ fn put_key(file: iff::File, t: &[u64], i: usize, key: u64, places: &mut [u32]) -
 }
 
 // One row: its key is tested and put into the index, where it names something.
-fn index_row(file: iff::File, t: &[u64], i: usize, run: keys::KeyRun, places: &mut [u32]) -> Next
+fn index_row(
+    file: iff::File,
+    t: &[u64],
+    i: usize,
+    run: fresh_keys::KeyRun,
+    places: &mut [u32],
+) -> Next
     requires { ⌜ AtRow file (now t) i (now places) ⌝ }
     ensures { λ r. ⌜ RowPut file (now (t .entry)) run i (now (places .entry)) (now (places .exit)) r ⌝ }
 {
@@ -100,7 +106,7 @@ fn index_row(file: iff::File, t: &[u64], i: usize, run: keys::KeyRun, places: &m
     }
     let key = tables::word_at(t, w, i, col);
     if put_key(file, t, i, key, places) {
-        return Next::Goes(keys::next_run(run, key));
+        return Next::Goes(fresh_keys::next_run(run, key));
     }
     Next::Came
 }
@@ -111,7 +117,7 @@ pub fn index_keys(file: iff::File, t: &[u64], used: usize, places: &mut [u32]) -
     requires { ⌜ (used * rowWidth file ≤ length (now t)) × (namesAt file (now t) 0 ≡ false) ⌝ }
     ensures { λ r. ⌜ KeysTold (keysAmong file used (now (t .entry))) r × (length (now (places .exit)) ≡ length (now (places .entry))) ⌝ }
 {
-    let mut run = keys::no_keys();
+    let mut run = fresh_keys::no_keys();
     let mut i = 1;
     while i < used {
         let Next::Goes(next) = index_row(file, t, i, run, places) else {

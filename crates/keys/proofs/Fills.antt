@@ -1,4 +1,4 @@
--- The keys of a table that is filled row by row, and the run of them. Laws of the definitions alone. Assumes nothing.
+-- The keys of a table that is filled row by row. Laws of the definitions alone. Assumes nothing.
 use Prim.Native.Nat.{ℕ, _*_, _≤_}
 use mathlib.Core.Path.{_≡_, refl, ap, _∙_}
 use mathlib.Core.List.{List, [], _∷_, _++_, map, append-nil}
@@ -12,8 +12,6 @@ use Rattle.tables.proofs.Each.{Each}
 use Rattle.tables.proofs.Rows.{Used}
 use Rattle.tables.proofs.Filled.{rows-in-fill}
 use Rattle.keys.specs.Lookup.{keysIn, isKeyRow}
-use Rattle.keys.specs.Runs.{stepRun, runOf}
-use Rattle.keys.proofs.Runs.{run-next}
 
 -- a filled table names what its rows name
 pub keys-in-fill : (f : File) (n : ℕ) (rs : List Row) → Each (Used (rowWidth f)) rs → length rs * rowWidth f ≤ n
@@ -40,10 +38,6 @@ module _ (f : File) where
   pub keys-next : (rs : List Row) (r : Row) → isKeyRow f r ≡ true → keysOf f (rs ++ (r ∷ [])) ≡ keysOf f rs ++ (word r (keyWord f) ∷ [])
   unfolding kept
   keys-next rs r e = keys-append rs (r ∷ []) ∙ rw e
-
-  pub run-key : (rs : List Row) (r : Row) → isKeyRow f r ≡ true
-      → runOf (keysOf f (rs ++ (r ∷ []))) ≡ stepRun (runOf (keysOf f rs)) (word r (keyWord f))
-  run-key rs r e = rw (keys-next rs r e) (run-next (keysOf f rs) (word r (keyWord f)))
 
   -- or nothing
   pub keys-same : (rs : List Row) (r : Row) → isKeyRow f r ≡ false → keysOf f (rs ++ (r ∷ [])) ≡ keysOf f rs

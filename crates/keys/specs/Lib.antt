@@ -1,5 +1,3 @@
 pub mod Blocks
 pub mod Lookup
-pub mod Runs
 pub mod Places
-pub mod Marks

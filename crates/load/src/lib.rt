@@ -201,7 +201,7 @@ pub fn load(
         t_timetbls,
         t_xfootnote,
     );
-    let services = keys::count_services(t_timetbls);
+    let services = fresh_keys::count_services(t_timetbls);
     clearing::settle(
         v12,
         t_delivery,

@@ -34,7 +34,7 @@ fn company_means(row: &[u64]) -> bool
     if row[iff::words::COMPANY_NUMBER] < 1 {
         return false;
     }
-    calendar::is_turn(row[iff::words::DAY_TURN])
+    clock::is_turn(row[iff::words::DAY_TURN])
 }
 
 // Inland is 0 or 1.
@@ -104,9 +104,9 @@ fn stop_means(row: &[u64]) -> bool
     ensures { λ r. ⌜ r ≡ timesRight (now (row .entry)) ⌝ }
 {
     if row[iff::words::TAG] == iff::tags::PLUS {
-        return calendar::is_interval(row[iff::words::ARRIVAL], row[iff::words::DEPARTURE]);
+        return clock::is_interval(row[iff::words::ARRIVAL], row[iff::words::DEPARTURE]);
     }
-    calendar::is_time(row[iff::words::STOP_TIME])
+    clock::is_time(row[iff::words::STOP_TIME])
 }
 
 // A record of a block, after some stops: 998 stops at most, and their times.

@@ -154,8 +154,8 @@ fn put_where(out: &mut [u8], at: usize, place: Place) -> usize
     ensures { λ r. ⌜ Appended (now (out .entry)) at (whereText place) (now (out .exit)) r ⌝ }
 {
     let a = put_place(out, at, place);
-    let b = put_field(out, a, answers::ordinal_of(place));
-    let c = put_field(out, b, answers::line_of(place));
+    let b = put_field(out, a, numbers::ordinal_of(place));
+    let c = put_field(out, b, numbers::line_of(place));
     put_byte(out, c, LF)
 }
 
@@ -163,7 +163,7 @@ fn put_refused(out: &mut [u8], reason: Reason, place: Place) -> usize
     ensures { λ r. ⌜ Appended (now (out .entry)) 0 (answerLine (Refused reason place)) (now (out .exit)) r ⌝ }
 {
     let a = put_bytes(out, 0, b"refused");
-    let b = put_field(out, a, answers::number_of(reason));
+    let b = put_field(out, a, numbers::number_of(reason));
     put_where(out, b, place)
 }
 

@@ -31,8 +31,8 @@ use Rattle.iff.specs.declared.Record.{Record}
 use Rattle.iff.specs.declared.Reason.{Reason}
 use Rattle.tables.proofs.Put.{length-put}
 use Rattle.records.proofs.FileLaws.{row-fields, row-length, row-tag, row-put, row-room}
-use Rattle.keys.specs.Runs.{runOf}
-use Rattle.keys.specs.declared.KeyRun.{KeyRun}
+use Rattle.fresh_keys.specs.Runs.{runOf}
+use Rattle.fresh_keys.specs.declared.KeyRun.{KeyRun}
 use Rattle.row_files.specs.declared.RowKept.{RowKept}
 use Rattle.row_files.specs.declared.RowKept.the-variants.{Key, Refused}
 use Rattle.row_files.specs.Plain.{Earlier, PlainRow, RowStored, LineAdded}

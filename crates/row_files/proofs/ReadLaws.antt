@@ -37,11 +37,11 @@ use Rattle.tables.proofs.Rows.{Used}
 use Rattle.tables.proofs.Filled.{fill-next, length-fill}
 use Rattle.records.proofs.FileLaws.{row-used, row-tag}
 use Rattle.keys.specs.Lookup.{keysIn, isKeyRow}
-use Rattle.keys.specs.Runs.{noKeys, stepRun, runOf}
+use Rattle.fresh_keys.specs.Runs.{noKeys, stepRun, runOf}
 use Rattle.references.specs.Agree.{StationKeys}
-use Rattle.keys.specs.declared.KeyRun.{KeyRun}
-use Rattle.keys.proofs.Runs.{run-rises}
-use Rattle.keys.proofs.Fills.{keys-in-fill, run-key}
+use Rattle.fresh_keys.specs.declared.KeyRun.{KeyRun}
+use Rattle.fresh_keys.proofs.Runs.{run-rises, run-key}
+use Rattle.keys.proofs.Fills.{keys-in-fill}
 use Rattle.reading.specs.Reading.{Begun, RowsDone}
 use Rattle.reading.specs.declared.RowsRead.the-variants.{AllRead, Stopped}
 use Rattle.row_files.specs.Tests.{plainRowTest}

@@ -16,8 +16,8 @@ use Rattle.iff.specs.declared.Test.the-variants.{Passes, Fails}
 use Rattle.iff_rules.specs.Rows.{rowOf, Context}
 use Rattle.iff_rules.specs.Load.{plainTest}
 use Rattle.keys.specs.Lookup.{keysIn}
-use Rattle.keys.specs.Runs.{runOf}
-use Rattle.keys.specs.declared.KeyRun.{KeyRun}
+use Rattle.fresh_keys.specs.Runs.{runOf}
+use Rattle.fresh_keys.specs.declared.KeyRun.{KeyRun}
 use Rattle.references.specs.Agree.{StationKeys}
 use Rattle.reading.specs.Reading.{Begun}
 use Rattle.row_files.specs.Tests.{plainRowTest}

@@ -1,4 +1,5 @@
 // The files of rows: COMPANY, COUNTRY, TRNSMODE, STATIONS. Every line's tests in their order, its row into the table, and the first fault.
+use fresh_keys::KeyRun;
 use iff::File;
 use iff::Form;
 use iff::Place;
@@ -6,7 +7,6 @@ use iff::Reason;
 use iff::RowFile;
 use iff::Test;
 use iff::Verdict;
-use keys::KeyRun;
 use reading::Begin;
 use reading::RowsRead;
 ghost use mathlib.Core.Path.{_≡_};
@@ -54,7 +54,7 @@ fn plain_row_test(
         return Test::Fails(Reason::Value);
     }
     let k = keys::key_word(File::Rows(file));
-    if !keys::is_fresh(File::Rows(file), run, t, row[k]) {
+    if !fresh_keys::is_fresh(File::Rows(file), run, t, row[k]) {
         return Test::Fails(Reason::Duplicate);
     }
     if !fresh_texts::fresh_texts(file, before, line) {
@@ -166,7 +166,7 @@ fn read_rows(
         (λ c. plainVerdict c file (lines (drop from (now (text .entry))))) (firstIn file (now (t .entry)))
         (map (rowOf form (Rows file)) (lines (drop from (now (text .entry))))) (now (t .entry)) (now (t .exit)) r ⌝ }
 {
-    let mut run = keys::no_keys();
+    let mut run = fresh_keys::no_keys();
     let mut at = from;
     let mut count: usize = 0;
     while at < text.len() {
@@ -190,7 +190,7 @@ fn read_rows(
                 return RowsRead::Stopped(r, Place::At(File::Rows(file), 0, line_number(count)));
             }
             RowKept::Key(key) => {
-                run = keys::next_run(run, key);
+                run = fresh_keys::next_run(run, key);
                 at = next;
                 count += 1;
             }

@@ -12,5 +12,5 @@ pub fn ordinal_at(t: &[u64], from: usize) -> u64
     ensures { λ r. ⌜ r ≡ suc (length (servicesBefore (now (t .entry)) from)) ⌝ }
 {
     let end = from * tables::BLOCK_WIDTH;
-    keys::count_services(&t[0..end]) + 1
+    fresh_keys::count_services(&t[0..end]) + 1
 }

@@ -79,11 +79,11 @@ fn clock_time(time: u64, earlier: bool, hours: u64) -> TimeOf
     requires { ⌜ hours < 100 ⌝ }
     ensures { λ r. ⌜ ClockTime time earlier hours r ⌝ }
 {
-    let MinutesOf::Minutes(minutes) = calendar::minutes_of(time) else {
+    let MinutesOf::Minutes(minutes) = clock::minutes_of(time) else {
         return TimeOf::NoTime;
     };
-    let local = calendar::local_of(minutes);
-    TimeOf::At(local, calendar::to_reference(local, earlier, hours))
+    let local = clock::local_of(minutes);
+    TimeOf::At(local, clock::to_reference(local, earlier, hours))
 }
 
 // The times of a stop's row by a zone's period.

@@ -26,10 +26,10 @@ use Rattle.text.proofs.LineLaws.{lines-end}
 use Rattle.tables.proofs.Each.{Each, each-append}
 use Rattle.tables.proofs.Rows.{Used, table-rows-used}
 use Rattle.tables.proofs.Filled.{joined-append, rows-in-fill, fill-front, fill-behind, drop-replicate}
-use Rattle.keys.specs.declared.KeyRun.{KeyRun}
+use Rattle.fresh_keys.specs.declared.KeyRun.{KeyRun}
 use Rattle.keys.specs.Lookup.{keysIn}
-use Rattle.keys.proofs.Runs.{run-next}
-use Rattle.keys.proofs.MarkLaws.{marked-next}
+use Rattle.fresh_keys.proofs.Runs.{run-next}
+use Rattle.fresh_keys.proofs.MarkLaws.{marked-next}
 use Rattle.keys.proofs.Fills.{keys-append}
 use Rattle.legs.proofs.RowLaws.{block-lines}
 use Rattle.blocks.specs.declared.Checked.{Checked}

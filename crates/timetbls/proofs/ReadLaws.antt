@@ -22,13 +22,13 @@ use Rattle.iff_rules.specs.Rows.{firstRowOf, blockRows, blocksRows, blocksOf, l
 use Rattle.iff_rules.specs.Load.{blockVerdict, serviceOf, timetblsVerdict}
 use Rattle.text.proofs.LineLaws.{lines-end}
 use Rattle.tables.proofs.Filled.{rows-in-fill}
-use Rattle.keys.specs.declared.KeyRun.{KeyRun}
+use Rattle.fresh_keys.specs.declared.KeyRun.{KeyRun}
 use Rattle.keys.specs.Lookup.{keysIn}
-use Rattle.keys.specs.Runs.{noKeys}
-use Rattle.keys.specs.Marks.{Marked}
+use Rattle.fresh_keys.specs.Runs.{noKeys}
+use Rattle.fresh_keys.specs.Marks.{Marked}
 use Rattle.references.specs.declared.BlockCounts.{BlockCounts}
 use Rattle.references.specs.Agree.{BlockKeys, BlockKeysAmong}
-use Rattle.keys.proofs.Runs.{run-rises}
+use Rattle.fresh_keys.proofs.Runs.{run-rises}
 use Rattle.reading.specs.declared.RowsRead.{RowsRead}
 use Rattle.reading.specs.declared.RowsRead.the-variants.{AllRead, Stopped}
 use Rattle.reading.specs.Reading.{Begun, Split, RowsDone}

@@ -18,10 +18,10 @@ use Rattle.iff.specs.declared.Verdict.the-variants.{Fine, Fault}
 use Rattle.iff_rules.specs.Order.{knownInBlock}
 use Rattle.iff_rules.specs.Rows.{asBlock, blocksOf, blockRows, blocksRows, linesIn, Context}
 use Rattle.iff_rules.specs.Load.{blockVerdict, serviceOf, strayVerdict, timetblsVerdict}
-use Rattle.keys.specs.declared.KeyRun.{KeyRun}
+use Rattle.fresh_keys.specs.declared.KeyRun.{KeyRun}
 use Rattle.keys.specs.Lookup.{keysIn}
-use Rattle.keys.specs.Runs.{noKeys, runOf, stepRun}
-use Rattle.keys.specs.Marks.{withMarks, Marked}
+use Rattle.fresh_keys.specs.Runs.{noKeys, runOf, stepRun}
+use Rattle.fresh_keys.specs.Marks.{withMarks, Marked}
 use Rattle.references.specs.declared.BlockCounts.{BlockCounts}
 use Rattle.references.specs.Agree.{BlockKeys, BlockKeysAmong}
 use Rattle.blocks.specs.declared.Checked.{Checked}

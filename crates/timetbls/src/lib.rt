@@ -13,14 +13,14 @@ ghost use Rattle.iff.specs.Refusals.{fine};
 ghost use Rattle.references.specs.Agree.{BlockKeys};
 ghost use Rattle.keys.specs.Lookup.{keysIn};
 ghost use Rattle.reading.specs.Reading.{Ready, FileRead};
-ghost use Rattle.keys.specs.Runs.{runOf};
-ghost use Rattle.keys.specs.Marks.{slots, Marked};
+ghost use Rattle.fresh_keys.specs.Runs.{runOf};
+ghost use Rattle.fresh_keys.specs.Marks.{slots, Marked};
 ghost use Rattle.timetbls.specs.Blocks.{Clean, NextBlock, StrayTold, BlockTested, Remembered, Addable, BlockAdded};
 ghost use Rattle.timetbls.specs.Blocks.{BlocksReady, BlocksAdded, AfterFirst, BlocksRead};
 
 // What became of a block: what is remembered of the services with it, and where the next block's rows go; or why it is refused, and at which line.
 pub enum BlockPut {
-    Kept(keys::KeyRun, usize),
+    Kept(fresh_keys::KeyRun, usize),
     Faulty(iff::Reason, u64),
 }
 
@@ -48,7 +48,7 @@ fn next_head(text: &[u8], from: usize) -> usize
 fn test_block(
     block: &[u8],
     form: iff::Form,
-    run: keys::KeyRun,
+    run: fresh_keys::KeyRun,
     marks: &[u8],
     t: &[u64],
     counts: references::BlockCounts,
@@ -64,7 +64,7 @@ fn test_block(
         (now (companies .entry)) (now (modes .entry)) (now (stations .entry)) (now (footnotes .entry)) r ⌝ }
 {
     let service = blocks::service_of(block);
-    let fresh = keys::is_fresh_service(marks, run, t, service);
+    let fresh = fresh_keys::is_fresh_service(marks, run, t, service);
     blocks::check_block(
         block,
         form,
@@ -79,20 +79,20 @@ fn test_block(
 }
 
 // What is remembered of the services with this block's, which is marked.
-fn after_block(run: keys::KeyRun, marks: &mut [u8], block: &[u8]) -> keys::KeyRun
+fn after_block(run: fresh_keys::KeyRun, marks: &mut [u8], block: &[u8]) -> fresh_keys::KeyRun
     requires { ⌜ length (now marks) ≡ slots ⌝ }
     ensures { λ r. ⌜ ((form : Form) → Remembered run (now (marks .entry)) (serviceOf form (asBlock (now (block .entry)))) (now (marks .exit)) r) ⌝ }
 {
     let service = blocks::service_of(block);
-    keys::mark(marks, service);
-    keys::next_run(run, service)
+    fresh_keys::mark(marks, service);
+    fresh_keys::next_run(run, service)
 }
 
 // One block: checked, and then written behind the `row` rows that the table holds.
 fn add_block(
     block: &[u8],
     form: iff::Form,
-    run: keys::KeyRun,
+    run: fresh_keys::KeyRun,
     marks: &mut [u8],
     row: usize,
     t: &mut [u64],
@@ -150,7 +150,7 @@ fn add_blocks(
     let mut at = from;
     let mut row: usize = 1;
     let mut done: u64 = 0;
-    let mut run = keys::no_keys();
+    let mut run = fresh_keys::no_keys();
     while at < text.len() {
         let ordinal = done + 1;
         let next = next_head(text, at);

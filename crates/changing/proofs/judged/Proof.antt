@@ -8,7 +8,8 @@ use Rattle.iff.specs.Tables.{Row}
 use Rattle.iff_desk.specs.Store.{periodOn, isThere}
 use Rattle.iff_desk.specs.declared.Change.{Change}
 use Rattle.changing.specs.Agree.{ZoneRows}
-use Rattle.changing.specs.Sides.{rowsFound, stopFound, verdictBy}
+use Rattle.changing.specs.Sides.{stopFound, verdictBy}
+use Rattle.needed_times.specs.Needed.{rowsFound}
 use Rattle.changing.proofs.CoreLaws.{no-first, no-second, both-there, same-periods}
 use Rattle.changing.proofs.judged.Statement.{statement}
 use Rattle.changing.proofs.judged.Tie as tie

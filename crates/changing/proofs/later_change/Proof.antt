@@ -1,7 +1,8 @@
 -- `later_change` meets its contract: the sides, the hurdles, the verdict. Assumes nothing.
 use mathlib.Core.Path.{ap, sym, _∙_}
 use borrow.Author.Needs.{needs}
-use Rattle.changing.specs.Sides.{rowsFound, stopFound, hurdleOf}
+use Rattle.changing.specs.Sides.{stopFound, hurdleOf}
+use Rattle.needed_times.specs.Needed.{rowsFound}
 use Rattle.changing.proofs.CoreLaws.{later-stops, later-clear, sides-found}
 use Rattle.changing.proofs.later_change.Statement.{statement}
 use Rattle.changing.proofs.later_change.Tie as tie

@@ -12,7 +12,7 @@ use Rattle.iff.specs.declared.File.the-variants.{Groups}
 use Rattle.iff_desk.specs.Running.{runsOn}
 use Rattle.iff_desk.specs.Changing.{stopIf}
 use Rattle.iff_desk.specs.declared.Early.the-variants.{FromRests, ToRests}
-use Rattle.changing.specs.Sides.{rowsFound}
+use Rattle.needed_times.specs.Needed.{rowsFound}
 use Rattle.changing.proofs.HurdleLaws.{stops-here, goes-on, all-clear}
 use Rattle.changing.proofs.run_hurdle.Statement.{statement}
 use Rattle.changing.proofs.run_hurdle.Tie as tie

@@ -8,7 +8,7 @@ use lib.Dec.{eqb}
 use Rattle.iff.specs.Words.{named}
 use Rattle.iff_desk.specs.Store.{stopAt}
 use Rattle.iff_desk.specs.declared.Early.the-variants.{StationsDiffer, NobodyAlights, NobodyBoards}
-use Rattle.changing.specs.Sides.{rowsFound}
+use Rattle.needed_times.specs.Needed.{rowsFound}
 use Rattle.changing.proofs.HurdleLaws.{stops-here, goes-on, all-clear}
 use Rattle.changing.proofs.stop_hurdle.Statement.{statement}
 use Rattle.changing.proofs.stop_hurdle.Tie as tie

@@ -3,7 +3,7 @@ use mathlib.Core.Path.{ap, _∙_}
 use borrow.Author.Needs.{needs}
 use lib.IntN.{ℤ}
 use mir.Facts.{toZ-ofZ}
-use Rattle.changing.specs.Sides.{rowsFound, verdictOn}
+use Rattle.needed_times.specs.Needed.{rowsFound, verdictOn}
 use Rattle.changing.proofs.weighed.Statement.{statement}
 use Rattle.changing.proofs.weighed.Tie as tie
 

@@ -1,6 +1,6 @@
 -- `calyxcabin_change` meets its contract: it is `desk::change`'s, in numbers. Assumes nothing.
 use mathlib.Core.Path.{_∙_, ap}
-use Rattle.answers.specs.Numbers.{changeWords, changeGap}
+use Rattle.change_numbers.specs.Numbers.{changeWords, changeGap}
 use borrow.Author.Needs.{needs}
 use Rattle.exports.proofs.calyxcabin_change.Statement.{statement}
 use Rattle.exports.proofs.calyxcabin_change.Tie as tie

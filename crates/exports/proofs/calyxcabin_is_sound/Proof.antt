@@ -1,6 +1,6 @@
 -- `calyxcabin_is_sound` meets its contract: it is `sound::is_sound`'s, as a number. Assumes nothing.
 use mathlib.Core.Path.{_∙_, ap}
-use Rattle.answers.specs.Numbers.{soundNumber}
+use Rattle.question_numbers.specs.Numbers.{soundNumber}
 use borrow.Author.Needs.{needs}
 use Rattle.exports.proofs.calyxcabin_is_sound.Statement.{statement}
 use Rattle.exports.proofs.calyxcabin_is_sound.Tie as tie

@@ -8,7 +8,7 @@ use lib.ListN.{length}
 use Rattle.iff.specs.Lines.{lines}
 use Rattle.iff.specs.declared.Test.the-variants.{Passes}
 use Rattle.iff_desk.specs.Parts.{isOneBlock, linesNowTest}
-use Rattle.answers.specs.Numbers.{linesWords}
+use Rattle.question_numbers.specs.Numbers.{linesWords}
 use Rattle.parts.specs.Bounds.{Inside, linesPart, textNow, partNow}
 use Rattle.parts.specs.declared.Part.{Part}
 use Rattle.parts.proofs.PartLaws.{now-holds, now-tested}

@@ -1,6 +1,6 @@
 -- `calyxcabin_load` meets its contract: it is `load::load`'s, and the answer's numbers. Assumes nothing.
 use mathlib.Core.Path.{_∙_, ap}
-use Rattle.answers.specs.Numbers.{answerWords}
+use Rattle.numbers.specs.Numbers.{answerWords}
 use borrow.Author.Needs.{needs}
 use Rattle.exports.proofs.calyxcabin_load.Statement.{statement}
 use Rattle.exports.proofs.calyxcabin_load.Tie as tie

@@ -1,6 +1,6 @@
 -- `calyxcabin_name` meets its contract: it is `parts::name_part`'s, in numbers. Assumes nothing.
 use mathlib.Core.Path.{_∙_, ap, subst}
-use Rattle.answers.specs.Numbers.{partWords}
+use Rattle.question_numbers.specs.Numbers.{partWords}
 use Rattle.parts.specs.Bounds.{Inside, namePart}
 use Rattle.parts.proofs.PartLaws.{name-holds, name-tested}
 use borrow.Author.Needs.{needs}

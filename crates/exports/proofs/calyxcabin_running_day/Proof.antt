@@ -1,6 +1,6 @@
 -- `calyxcabin_running_day` meets its contract: it is `desk::running_day`'s, in numbers. Assumes nothing.
 use mathlib.Core.Path.{_∙_, ap}
-use Rattle.answers.specs.Numbers.{runningWords}
+use Rattle.question_numbers.specs.Numbers.{runningWords}
 use borrow.Author.Needs.{needs}
 use Rattle.exports.proofs.calyxcabin_running_day.Statement.{statement}
 use Rattle.exports.proofs.calyxcabin_running_day.Tie as tie

@@ -1,6 +1,6 @@
 -- `calyxcabin_stop_time` meets its contract: it is `desk::stop_time`'s, in numbers. Assumes nothing.
 use mathlib.Core.Path.{_∙_, ap}
-use Rattle.answers.specs.Numbers.{stopTimeWords, stopTimeMinutes}
+use Rattle.question_numbers.specs.Numbers.{stopTimeWords, stopTimeMinutes}
 use borrow.Author.Needs.{needs}
 use Rattle.exports.proofs.calyxcabin_stop_time.Statement.{statement}
 use Rattle.exports.proofs.calyxcabin_stop_time.Tie as tie

@@ -1,7 +1,7 @@
 -- `timetbls::after_block` meets its contract. Assumes nothing.
 use mathlib.Core.Path.{ap, _∙_}
 use borrow.Author.Needs.{needs}
-use Rattle.keys.specs.Runs.{stepRun}
+use Rattle.fresh_keys.specs.Runs.{stepRun}
 use Rattle.timetbls.proofs.after_block.Statement.{statement}
 use Rattle.timetbls.proofs.after_block.Tie as tie
 

@@ -1,0 +1,4 @@
+pub mod RowLaws
+pub mod LineLaws
+pub mod BlockLaws
+pub mod Cases

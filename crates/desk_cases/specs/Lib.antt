@@ -1,0 +1,10 @@
+pub mod Soundness
+pub mod SoundRules
+pub mod TooLong
+pub mod RunningCases
+pub mod StopCases
+pub mod ChangeCases
+pub mod PartCases
+pub mod AmendCases
+pub mod AnswerCases
+pub mod Borders

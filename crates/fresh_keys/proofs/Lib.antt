@@ -1,0 +1,5 @@
+-- laws for callers
+pub mod Runs
+pub mod MarkLaws
+-- laws of the functions
+pub mod CountLaws
