@@ -2,21 +2,22 @@
 use Prim.Native.Nat.{ℕ, zero, suc, _+_, _-_, _≤_, _<_}
 use mathlib.Core.Path.{_≡_, refl, sym, _∙_}
 use mathlib.Core.List.{List, [], _∷_}
-use mathlib.Core.Bool.{Bool, true, false, not, false≢true}
+use mathlib.Core.Bool.{Bool, true, false, not, and-false, false≢true}
 use native.Mathlib.Omega.{arith}
 use lib.Dec.{eqb, ltb}
 use borrow.Author.Tests.{eq-eqb, ne-eqb, eqb-true, eqb-false, lt-leb, ltb-true, ltb-false}
 use Rattle.text.proofs.PictureLaws.{and-left, and-right}
-use Rattle.iff.specs.Lists.{all, total}
+use Rattle.iff.specs.Bytes.{percent, dash, ampersand}
+use Rattle.iff.specs.Lists.{all, any, total}
 use Rattle.iff.specs.Tables.{Row, tag, rowAt, rowWidth}
 use Rattle.iff.specs.declared.File.the-variants.{Timetbls}
-use Rattle.iff_rules.specs.Legs.{firstStop, lastStop, reachOf, inRange, covered, ofKind}
+use Rattle.iff_rules.specs.Legs.{firstStop, lastStop, reachOf, inRange, covered, ofKind, stopsOf, legs}
 use Rattle.legs.specs.declared.Span.{Span}
 use Rattle.legs.specs.Rows.{covers, onceTo, SpanOf}
 use Rattle.legs.proofs.MarkLaws.{within, within-yes, within-not, once-covered}
 use Rattle.legs.proofs.RowLaws.{kind-times}
 use Rattle.legs.proofs.SpanLaws.{Ranged, range-of, times-same, times-other}
-use Rattle.row_legs.specs.Blocks.{blockBetween, rowsTimes, stopAfter, linked}
+use Rattle.row_legs.specs.Blocks.{blockBetween, rowsTimes, stopAfter, linked, allLinked}
 use Rattle.row_legs.proofs.WalkLaws.{between-next, between-none}
 
 -- THE STOP AFTER A ROW, case by case
@@ -131,3 +132,52 @@ linked-covers x n c rs a l =
     let y = reaching x n c rs a 1 l in
     sym (once-covered (ofKind x rs) (within 1 n) (λ k. sym (kind-times x k rs ∙ y .once k)) (n - 1))
     ∙ once-each n (n - 1) (omega (arith, y .low))
+
+-- ONE PASS over all kinds: what is left is the whole, of each test
+pub record Linking (t : List ℕ) (from to n i number validity mode : ℕ) : Type 0 where
+  pub ranged : all (inRange reachOf n) (blockBetween t from to) ≡ all (inRange reachOf n) (blockBetween t i to)
+  pub numbers : linked percent 1 n (blockBetween t from to) ≡ linked percent number n (blockBetween t i to)
+  pub validities : linked dash 1 n (blockBetween t from to) ≡ linked dash validity n (blockBetween t i to)
+  pub modes : linked ampersand 1 n (blockBetween t from to) ≡ linked ampersand mode n (blockBetween t i to)
+
+module _ (t : List ℕ) (from to n : ℕ) where
+  pub linking-first : Linking t from to n from 1 1 1
+  linking-first = record { ranged = refl; numbers = refl; validities = refl; modes = refl }
+
+  abbrev rows : List Row
+  rows = blockBetween t from to
+
+  -- a test that does not hold
+  pub range-fails : all (inRange reachOf n) rows ≡ false → false ≡ allLinked n rows
+  unfolding allLinked
+  range-fails e = sym (rw e)
+
+  pub numbers-fail : linked percent 1 n rows ≡ false → false ≡ allLinked n rows
+  unfolding allLinked
+  numbers-fail e = sym (rw (e, and-false))
+
+  pub validities-fail : linked dash 1 n rows ≡ false → false ≡ allLinked n rows
+  unfolding allLinked
+  validities-fail e = sym (rw (e, and-false, and-false))
+
+  pub modes-fail : linked ampersand 1 n rows ≡ false → false ≡ allLinked n rows
+  unfolding allLinked
+  modes-fail e = sym (rw (e, and-false, and-false, and-false))
+
+  -- where the others hold, the last decides
+  pub all-hold : all (inRange reachOf n) rows ≡ true → linked percent 1 n rows ≡ true → linked dash 1 n rows ≡ true
+      → linked ampersand 1 n rows ≡ allLinked n rows
+  unfolding allLinked
+  all-hold a b d = sym (rw (a, b, d))
+
+-- records that are all linked cover each leg once, of every kind
+pub linked-legs : (n : ℕ) (rs : List Row) → n ≡ stopsOf rs → allLinked n rs ≡ true → true ≡ legs reachOf rs
+unfolding allLinked legs covers any
+linked-legs n rs s e =
+    let a = and-left (all (inRange reachOf n) rs) _ e in
+    let f = and-right (all (inRange reachOf n) rs) _ e in
+    let g = and-right (linked percent 1 n rs) _ f in
+    let p = linked-covers percent n refl rs a (and-left (linked percent 1 n rs) _ f) in
+    let d = linked-covers dash n refl rs a (and-left (linked dash 1 n rs) _ g) in
+    let m = linked-covers ampersand n refl rs a (and-right (linked dash 1 n rs) _ g) in
+    sym (rw (← s, a, p, d, m))

@@ -5,6 +5,7 @@ use mathlib.Core.List.{List, [], _∷_}
 use mathlib.Core.Bool.{Bool, true, not, _&&_, cond}
 use lib.Dec.{eqb}
 use lib.ListN.{length}
+use Rattle.iff.specs.Bytes.{percent, dash, ampersand}
 use Rattle.iff.specs.Lists.{all, total}
 use Rattle.iff.specs.Tables.{Row, tag, rowAt, rowWidth}
 use Rattle.iff.specs.declared.File.the-variants.{Timetbls}
@@ -51,3 +52,7 @@ stopAfter x at r = cond (eqb (tag r) x) (cond (eqb (firstStop r) at) (lastStop r
 unfoldable pub linked : ℕ → ℕ → ℕ → List Row → Bool
 linked x at n [] = eqb at n
 linked x at n (r ∷ rs) = not (eqb (stopAfter x at r) 0) && linked x (stopAfter x at r) n rs
+
+-- all records are in range, and those of each kind go from stop 1 to stop n
+unfoldable pub allLinked : ℕ → List Row → Bool
+allLinked n rs = all (inRange reachOf n) rs && (linked percent 1 n rs && (linked dash 1 n rs && linked ampersand 1 n rs))

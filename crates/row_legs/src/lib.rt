@@ -1,5 +1,6 @@
 // Test 10 of document 01, "Legs", over the rows of a block in a table. Nearly every block has records that follow each other from the first stop to
-// the last, and those cover each leg once: one pass tells, and no leg is marked. Only where they do not, each leg has a mark.
+// the last, and those cover each leg once: one pass tells, and no leg is marked. Only where they do not, the kinds are asked one by one, and each leg
+// has a mark.
 ghost use mathlib.Core.Path.{_≡_};
 ghost use Prim.Native.Nat.{_+_, _-_, _*_, _≤_};
 ghost use lib.ListN.{length};
@@ -11,7 +12,7 @@ ghost use Rattle.iff_rules.specs.Legs.{legs, reachOf, inRange, covered, ofKind}
 ghost use Rattle.keys.specs.Blocks.{rowsBetween};
 ghost use Rattle.legs.specs.Rows.{times};
 ghost use Rattle.legs.specs.Tally.{Tally};
-ghost use Rattle.row_legs.specs.Blocks.{blockBetween, BlockOfStops, RowMarkable, RangedBlock, rowsTimes, stopAfter, linked};
+ghost use Rattle.row_legs.specs.Blocks.{blockBetween, BlockOfStops, RowMarkable, RangedBlock, rowsTimes, stopAfter, linked, allLinked};
 
 // IN RANGE
 
@@ -83,6 +84,43 @@ fn are_linked(t: &[u64], from: usize, to: usize, n: u64, kind: u64) -> bool
     at == n
 }
 
+// All records are in range, and those of each kind follow each other: one pass, which nearly every block passes.
+fn are_all_linked(t: &[u64], from: usize, to: usize, n: u64) -> bool
+    requires { ⌜ to * rowWidth Timetbls ≤ length (now t) ⌝ }
+    ensures { λ r. ⌜ r ≡ allLinked n (blockBetween (now (t .entry)) from to) ⌝ }
+{
+    let mut number: u64 = 1;
+    let mut validity: u64 = 1;
+    let mut mode: u64 = 1;
+    let mut i = from;
+    while i < to {
+        let ranged = in_range_at(t, i, n);
+        if !ranged {
+            return false;
+        }
+        number = stop_after_at(t, i, iff::tags::PERCENT, number);
+        if number == 0 {
+            return false;
+        }
+        validity = stop_after_at(t, i, iff::tags::DASH, validity);
+        if validity == 0 {
+            return false;
+        }
+        mode = stop_after_at(t, i, iff::tags::AMPERSAND, mode);
+        if mode == 0 {
+            return false;
+        }
+        i += 1;
+    }
+    if number != n {
+        return false;
+    }
+    if validity != n {
+        return false;
+    }
+    mode == n
+}
+
 // MARKED
 
 // Marks the legs of row `i`, if it is of this kind.
@@ -141,6 +179,9 @@ pub fn are_right(t: &[u64], from: usize, to: usize, n: u64) -> bool
     requires { ⌜ BlockOfStops (now t) from to n ⌝ }
     ensures { λ r. ⌜ r ≡ legs reachOf (rowsBetween (rowWidth Timetbls) (now (t .entry)) from to) ⌝ }
 {
+    if are_all_linked(t, from, to, n) {
+        return true;
+    }
     if !are_in_range(t, from, to, n) {
         return false;
     }

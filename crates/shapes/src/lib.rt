@@ -85,7 +85,7 @@ fn still_blank(blank: bool, byte: u8) -> bool
 }
 
 // A code's bytes are allowed and not all blank. The last stands lowest and is read first; what is left after as many as there are columns is none.
-fn is_code(word: u64, width: usize) -> bool
+pub fn is_code(word: u64, width: usize) -> bool
     ensures { λ r. ⌜ r ≡ codeRight width word ⌝ }
 {
     let mut left = word;

@@ -340,7 +340,6 @@ fn are_right_behind(
         with_footnote,
         timetbls,
         used.timetbls,
-        form,
         blocks,
         company,
         trnsmode,

@@ -81,7 +81,6 @@ pub fn are_blocks_right(
     so_far: bool,
     t: &[u64],
     used: usize,
-    form: Form,
     counts: references::BlockCounts,
     companies: &[u64],
     modes: &[u64],
@@ -90,7 +89,7 @@ pub fn are_blocks_right(
     places: &[u32],
 ) -> bool
     requires { ⌜ used ≡ length (rowsIn Timetbls (now t)) ⌝ }
-    ensures { λ r. ⌜ ((c : Context) → c .form ≡ form
+    ensures { λ r. ⌜ ((c : Context)
         → BlockKeysAmong c counts (now (companies .entry)) (now (modes .entry)) (now (stations .entry)) (now (footnotes .entry))
         → r ≡ («so_far» && behind c Timetbls (rowsIn Timetbls (now (t .entry))))) ⌝ }
 {
@@ -103,7 +102,6 @@ pub fn are_blocks_right(
     sound_blocks::are_blocks_sound(
         t,
         used,
-        form,
         counts,
         companies,
         modes,

@@ -10,7 +10,6 @@ use lib.ListN.{length, getD}
 use Rattle.iff.specs.Lists.{Group, groups, all, allOf}
 use Rattle.iff.specs.Tables.{Row, isHashRow, rowAt, rowWidth}
 use Rattle.iff.specs.Words.{lineCount, stopCount}
-use Rattle.iff.specs.declared.Form.{Form}
 use Rattle.iff.specs.declared.File.the-variants.{Timetbls}
 use Rattle.iff.specs.declared.InBlock.{InBlock}
 use Rattle.iff_rules.specs.Order.{finished}
@@ -18,29 +17,24 @@ use Rattle.iff_rules.specs.Legs.{stopsOf, reachOf, legs}
 use Rattle.iff_rules.specs.Rows.{Context}
 use Rattle.iff_rules.specs.Load.{blockStart}
 use Rattle.iff_desk.specs.Sound.{passes, soundBlockRow, nextRow, rowsStart, standAfterRows, soundBlock, soundTimetbls}
-use Rattle.keys.specs.Blocks.{blockOfRows, rowsBetween}
+use Rattle.keys.specs.Blocks.{blockOfRows}
 use Rattle.references.specs.declared.BlockCounts.{BlockCounts}
 use Rattle.references.specs.Agree.{BlockKeysAmong}
 use Rattle.row_legs.specs.Blocks.{BlockOfStops}
 use Rattle.walks.specs.Heads.{NextHead}
 use Rattle.walks.proofs.GroupLaws.{between-none, between-first, group-at}
-use Rattle.sound_blocks.specs.Walk.{BlockAt, isThrough, RowsWalked}
+use Rattle.sound_blocks.specs.Walk.{BlockAt, rowsOf, groupOf, isThrough, BlockWalked, isSound, BlockTold}
 use Rattle.sound_blocks.specs.declared.Walked.{Walked}
 use Rattle.sound_blocks.specs.declared.Walked.the-variants.{Through, Unsound}
-use Rattle.sound_block_rows.proofs.TestLaws.{one-false, third-decides}
+use Rattle.sound_blocks.specs.declared.Tested.{Tested}
+use Rattle.sound_blocks.specs.declared.Tested.the-variants as tested
+use Rattle.sound_block_rows.proofs.TestLaws.{one-false}
 
 -- ONE BLOCK
 rows-count : (t : List ℕ) (i k : ℕ) → length (blockOfRows (rowWidth Timetbls) t i k) ≡ k
 unfolding blockOfRows
 rows-count t i zero = refl
 rows-count t i (suc k) = ap suc (rows-count t (suc i) k)
-
--- the rows of a block in its table, and the block as a group
-abbrev rowsOf : List ℕ → ℕ → ℕ → List Row
-rowsOf t from to = rowsBetween (rowWidth Timetbls) t from to
-
-abbrev pub groupOf : List ℕ → ℕ → ℕ → Group Row
-groupOf t from to = record { top = rowAt (rowWidth Timetbls) t from; rest = rowsOf t (suc from) to }
 
 -- the tests of a block whose `#` row is `top`, over its rows and their number
 abbrev testsOf : Context → Row → ℕ → List Row → List Bool
@@ -62,69 +56,107 @@ as-tests c t from to h =
     ap (λ (n : ℕ). allOf (testsOf c top n (rowsOf t from to))) (sym (rows-count t from (to - from)))
     ∙ ap (λ (rs : List Row). allOf (testsOf c top (length rs) rs)) (between-first (rowWidth Timetbls) t from to h)
 
-module _ (form : Form) (counts : BlockCounts) (co mo st fo t : List ℕ) (from to : ℕ) (at : BlockAt t from to) where
-  abbrev Says : Bool → Type 0
-  Says b = (c : Context) → c .form ≡ form → BlockKeysAmong c counts co mo st fo → b ≡ soundBlock c (groupOf t from to)
+module _ (counts : BlockCounts) (co mo st fo t : List ℕ) (from used : ℕ) (at : BlockAt t from used) (w : Walked)
+    (walk : BlockWalked counts co mo st fo t from used w) where
+  abbrev Told : Tested → Type 0
+  Told r = BlockTold counts co mo st fo t from used r
+
+  some : from < walk .end
+  some = omega (arith, walk .next .low)
 
   -- one test that does not hold
-  unsound : (c : Context) (k : ℕ) → getD (tests c t from to) k true ≡ false → false ≡ soundBlock c (groupOf t from to)
-  unsound c k e = one-false (tests c t from to) k e ∙ as-tests c t from to (at .some)
+  unsound : ((c : Context) → BlockKeysAmong c counts co mo st fo → false ≡ allOf (tests c t from (walk .end))) → Told tested.Unsound
+  unsound says =
+      record {
+        end = walk .end;
+        next = walk .next;
+        says = λ c g. says c g ∙ as-tests c t from (walk .end) some;
+        ended = λ to q. absurd (let z : _≡_ {A = ℕ} 0 1 = cc in omega arith);
+      }
 
-  pub other-lines : (lineCount (rowAt (rowWidth Timetbls) t from) ≡ to - from → ⊥) → Says false
-  other-lines n c d g = unsound c 3 (ne-eqb _ _ n)
+  pub unsound-row : w ≡ Unsound → Told tested.Unsound
+  unsound-row e = unsound (λ c g. one-false (tests c t from (walk .end)) 0 (sym (walk .says c g) ∙ ap isThrough e))
 
-  module _ (w : Walked) (walk : RowsWalked form counts co mo st fo (rowsOf t from to) w) where
-    pub unsound-row : w ≡ Unsound → Says false
-    unsound-row e c d g = unsound c 0 (sym (walk .says c d g) ∙ ap isThrough e)
+  module _ (block : InBlock) (to : ℕ) (e : w ≡ Through block to) where
+    pub is-end : to ≡ walk .end
+    is-end = walk .ended block to e .0
 
-    module _ (block : InBlock) (e : w ≡ Through block) where
-      pub unfinished : finished (block .stand) ≡ false → Says false
-      unfinished n c d g = unsound c 1 (ap finished (walk .ended block e .stand) ∙ n)
+    -- the block stands in the table
+    pub block-in : from ≤ to
+    block-in = omega (arith, is-end, some)
 
-      pub other-stops : (stopCount (rowAt (rowWidth Timetbls) t from) ≡ block .stops → ⊥) → Says false
-      other-stops n c d g = unsound c 4 (ne-eqb _ _ (λ q. n (q ∙ sym (walk .ended block e .stops))))
+    pub other-lines : (lineCount (rowAt (rowWidth Timetbls) t from) ≡ to - from → ⊥) → Told tested.Unsound
+    other-lines n = unsound (λ c g. one-false (tests c t from (walk .end)) 3 (ne-eqb _ _ (λ q. n (q ∙ ap (λ (k : ℕ). k - from) (sym is-end)))))
 
-      -- what the test of legs asks
-      pub legs-ask : BlockOfStops t from to (block .stops)
-      legs-ask =
-          let l = walk .ended block e in
-          record { rises = omega (arith, at .some); inside = at .inside; stops = l .stops; few = l .few }
+    pub unfinished : finished (block .stand) ≡ false → Told tested.Unsound
+    unfinished n = unsound (λ c g. one-false (tests c t from (walk .end)) 1 (ap finished (walk .ended block to e .1 .stand) ∙ n))
 
-      -- where the other tests hold, the legs decide
-      pub legs-decide : lineCount (rowAt (rowWidth Timetbls) t from) ≡ to - from → finished (block .stand) ≡ true
-          → stopCount (rowAt (rowWidth Timetbls) t from) ≡ block .stops → (b : Bool) → b ≡ legs reachOf (rowsOf t from to) → Says b
-      legs-decide n f s b l c d g =
-          let top = rowAt (rowWidth Timetbls) t from in
-          let lie = legs reachOf (rowsOf t from to) in
-          let rows : passes (soundBlockRow c) nextRow rowsStart (rowsOf t from to) ≡ true = sym (walk .says c d g) ∙ ap isThrough e in
-          let ends : finished (standAfterRows blockStart (rowsOf t from to)) ≡ true = ap finished (walk .ended block e .stand) ∙ f in
-          let lines : eqb (lineCount top) (to - from) ≡ true = eq-eqb _ _ n in
-          let stops : eqb (stopCount top) (stopsOf (rowsOf t from to)) ≡ true = eq-eqb _ _ (s ∙ walk .ended block e .stops) in
-          let decide : lie ≡ allOf (tests c t from to) = rw (rows, ends, lines, stops) (third-decides lie) in
-          l ∙ decide ∙ as-tests c t from to (at .some)
+    pub other-stops : (stopCount (rowAt (rowWidth Timetbls) t from) ≡ block .stops → ⊥) → Told tested.Unsound
+    other-stops n =
+        unsound (λ c g. one-false (tests c t from (walk .end)) 4 (ne-eqb _ _ (λ q. n (q ∙ sym (walk .ended block to e .1 .stops)))))
+
+    -- what the test of legs asks
+    pub legs-ask : BlockOfStops t from to (block .stops)
+    legs-ask =
+        let l = walk .ended block to e .1 in
+        rw is-end record {
+          rises = omega (arith, some);
+          inside = omega (arith, at .inside, walk .next .high);
+          stops = l .stops;
+          few = l .few;
+        }
+
+    module _ (b : Bool) (l : b ≡ legs reachOf (rowsOf t from to)) where
+      right : b ≡ legs reachOf (rowsOf t from (walk .end))
+      right = l ∙ ap (λ (k : ℕ). legs reachOf (rowsOf t from k)) is-end
+
+      pub other-legs : b ≡ false → Told tested.Unsound
+      other-legs f = unsound (λ c g. one-false (tests c t from (walk .end)) 2 (sym right ∙ f))
+
+      -- where all tests hold
+      pub block-sound : lineCount (rowAt (rowWidth Timetbls) t from) ≡ to - from → finished (block .stand) ≡ true
+          → stopCount (rowAt (rowWidth Timetbls) t from) ≡ block .stops → b ≡ true → Told (tested.Sound to)
+      unfolding allOf
+      block-sound n f s y =
+          record {
+            end = walk .end;
+            next = walk .next;
+            says = λ c g.
+                let top = rowAt (rowWidth Timetbls) t from in
+                let rows : passes (soundBlockRow c) nextRow rowsStart (rowsOf t from (walk .end)) ≡ true = sym (walk .says c g) ∙ ap isThrough e in
+                let ends : finished (standAfterRows blockStart (rowsOf t from (walk .end))) ≡ true =
+                ap finished (walk .ended block to e .1 .stand) ∙ f in
+                let lie : legs reachOf (rowsOf t from (walk .end)) ≡ true = sym right ∙ y in
+                let lines : eqb (lineCount top) (walk .end - from) ≡ true = eq-eqb _ _ (n ∙ ap (λ (k : ℕ). k - from) is-end) in
+                let stops : eqb (stopCount top) (stopsOf (rowsOf t from (walk .end))) ≡ true =
+                eq-eqb _ _ (s ∙ walk .ended block to e .1 .stops) in
+                let hold : true ≡ allOf (tests c t from (walk .end)) = rw (rows, ends, lie, lines, stops) in
+                hold ∙ as-tests c t from (walk .end) some;
+            ended = λ k q. let z : to ≡ k = cc in sym z ∙ is-end;
+          }
 
 -- ALL BLOCKS: what is left is the whole
-pub record Left (form : Form) (counts : BlockCounts) (co mo st fo t : List ℕ) (used i : ℕ) : Type 0 where
+pub record Left (counts : BlockCounts) (co mo st fo t : List ℕ) (used i : ℕ) : Type 0 where
   pub low : 1 ≤ i
   pub high : i ≤ used
   pub head : i < used → isHashRow (rowAt (rowWidth Timetbls) t i) ≡ true
   pub says :
-      (c : Context) → c .form ≡ form → BlockKeysAmong c counts co mo st fo
+      (c : Context) → BlockKeysAmong c counts co mo st fo
       → soundTimetbls c (rowsOf t 1 used) ≡ all (soundBlock c) (groups isHashRow (rowsOf t i used))
 
-module _ (form : Form) (counts : BlockCounts) (co mo st fo t : List ℕ) (used : ℕ) where
+module _ (counts : BlockCounts) (co mo st fo t : List ℕ) (used : ℕ) where
   abbrev AllSays : Bool → Type 0
-  AllSays b = (c : Context) → c .form ≡ form → BlockKeysAmong c counts co mo st fo → b ≡ soundTimetbls c (rowsOf t 1 used)
+  AllSays b = (c : Context) → BlockKeysAmong c counts co mo st fo → b ≡ soundTimetbls c (rowsOf t 1 used)
 
   module _ (first : ℕ) (n : NextHead (rowWidth Timetbls) t 1 used first) where
     -- a row stands before the first `#`
     pub stray : (first ≡ 1 → ⊥) → AllSays false
     unfolding soundTimetbls
-    stray e c d g =
+    stray e c g =
         let f = between-first (rowWidth Timetbls) t 1 first (omega (arith, n .low, e)) in
         rw (n .until, f)
 
-    pub starts : first ≡ 1 → Left form counts co mo st fo t used 1
+    pub starts : first ≡ 1 → Left counts co mo st fo t used 1
     unfolding soundTimetbls
     starts e =
         let h = n .high in
@@ -133,34 +165,38 @@ module _ (form : Form) (counts : BlockCounts) (co mo st fo t : List ℕ) (used :
           low = omega arith;
           high = omega arith;
           head = λ l. ap (λ (k : ℕ). isHashRow (rowAt (rowWidth Timetbls) t k)) (sym e) ∙ n .head (omega arith);
-          says = λ c d g. rw (n .until, none);
+          says = λ c g. rw (n .until, none);
         }
 
-  module _ (i : ℕ) (p : Left form counts co mo st fo t used i) where
+  module _ (i : ℕ) (p : Left counts co mo st fo t used i) where
     pub ends : used ≤ i → AllSays true
     unfolding all groups
-    ends h c d g =
+    ends h c g =
         let none = between-none (rowWidth Timetbls) t i used h in
-        sym (p .says c d g ∙ rw none)
+        sym (p .says c g ∙ rw none)
 
-    -- the block that begins in row i, and ends before row `end`
-    module _ (l : i < used) (end : ℕ) (n : NextHead (rowWidth Timetbls) t (suc i) used end) (b : Bool) where
-      abbrev BlockSays : Type 0
-      BlockSays = (c : Context) → c .form ≡ form → BlockKeysAmong c counts co mo st fo → b ≡ soundBlock c (groupOf t i end)
-
+    -- the block that begins in row i
+    module _ (l : i < used) (b : Tested) (told : BlockTold counts co mo st fo t i used b) where
       one-more : (c : Context) → all (soundBlock c) (groups isHashRow (rowsOf t i used))
-          ≡ (soundBlock c (groupOf t i end) && all (soundBlock c) (groups isHashRow (rowsOf t end used)))
+          ≡ (soundBlock c (groupOf t i (told .end)) && all (soundBlock c) (groups isHashRow (rowsOf t (told .end) used)))
       unfolding all
-      one-more c = rw (group-at (rowWidth Timetbls) t i used end l (p .head l) n)
+      one-more c = rw (group-at (rowWidth Timetbls) t i used (told .end) l (p .head l) (told .next))
 
-      pub unsound-block : BlockSays → b ≡ false → AllSays false
-      unsound-block s e c d g = sym (p .says c d g ∙ one-more c ∙ rw (sym (s c d g) ∙ e))
+      pub unsound-block : b ≡ tested.Unsound → AllSays false
+      unsound-block e c g = sym (p .says c g ∙ one-more c ∙ rw (sym (told .says c g) ∙ ap isSound e))
 
-      pub goes-on : BlockSays → b ≡ true → Left form counts co mo st fo t used end
-      goes-on s e =
-          record {
-            low = omega (arith, n .low);
-            high = n .high;
-            head = n .head;
-            says = λ c d g. p .says c d g ∙ one-more c ∙ rw (sym (s c d g) ∙ e);
-          }
+      module _ (to : ℕ) (e : b ≡ tested.Sound to) where
+        pub goes-on : Left counts co mo st fo t used to
+        goes-on =
+            rw (told .ended to e) record {
+              low = omega (arith, told .next .low);
+              high = told .next .high;
+              head = told .next .head;
+              says = λ c g. p .says c g ∙ one-more c ∙ rw (sym (told .says c g) ∙ ap isSound e);
+            }
+
+        pub rises : i < to
+        rises = omega (arith, told .ended to e, told .next .low)
+
+        pub stays : to ≤ used
+        stays = omega (arith, told .ended to e, told .next .high)

@@ -1,47 +1,65 @@
 // The rows of TIMETBLS after its first line, as "Soundness" of document 01 asks for them: block by block, each from its `#` to the next.
 ghost use mathlib.Core.Path.{_≡_};
-ghost use Prim.Native.Nat.{suc, _+_, _*_, _≤_, _<_};
+ghost use mathlib.Core.Bool.{_&&_};
+ghost use Prim.Native.Nat.{_+_, _*_, _≤_, _<_};
+ghost use lib.Dec.{ltb};
 ghost use lib.ListN.{length};
-ghost use Rattle.iff.specs.Tables.{rowAt, rowWidth};
+ghost use Rattle.iff.specs.Tables.{rowAt, rowWidth, isHashRow};
 ghost use Rattle.iff.specs.declared.File.the-variants.{Timetbls};
+ghost use Rattle.iff_rules.specs.Meaning.{mostStops};
 ghost use Rattle.iff_rules.specs.Rows.{Context};
-ghost use Rattle.iff_desk.specs.Sound.{soundBlock, soundTimetbls};
+ghost use Rattle.iff_desk.specs.Sound.{soundTimetbls};
 ghost use Rattle.keys.specs.Blocks.{rowsBetween};
 ghost use Rattle.references.specs.Agree.{BlockKeysAmong};
 ghost use Rattle.sound_block_rows.specs.Told.{RowTold};
-ghost use Rattle.sound_blocks.specs.Walk.{BlockAt, RowsWalked};
+ghost use Rattle.sound_blocks.specs.Walk.{BlockAt, BlockWalked, BlockTold};
 
-// Where the rows of a block lead, each of them sound; or that one is not.
+// Where the rows of a block lead, each of them sound, and the row behind them; or that one is not.
 pub enum Walked {
-    Through(iff::InBlock),
+    Through(iff::InBlock, usize),
     Unsound,
 }
 
+// The row behind a sound block.
+pub enum Tested {
+    Sound(usize),
+    Unsound,
+}
+
+// Row `i` begins another block than the one that begins in row `from`.
+fn is_next_head(t: &[u64], from: usize, i: usize) -> bool
+    requires { ⌜ i * rowWidth Timetbls + rowWidth Timetbls ≤ length (now t) ⌝ }
+    ensures { λ r. ⌜ r ≡ (ltb from i && isHashRow (rowAt (rowWidth Timetbls) (now (t .entry)) i)) ⌝ }
+{
+    if from < i {
+        return tables::word_at(t, tables::BLOCK_WIDTH, i, iff::words::TAG) == iff::tags::HASH;
+    }
+    false
+}
+
 // Row `i` of the table, as line `line` of a block.
-fn is_sound_at(
+fn after_at(
     t: &[u64],
     i: usize,
     block: iff::InBlock,
     line: u64,
-    form: iff::Form,
     counts: references::BlockCounts,
     companies: &[u64],
     modes: &[u64],
     stations: &[u64],
     footnotes: &[u64],
     places: &[u32],
-) -> bool
-    requires { ⌜ i * rowWidth Timetbls + rowWidth Timetbls ≤ length (now t) ⌝ }
-    ensures { λ r. ⌜ RowTold form counts (now (companies .entry)) (now (modes .entry)) (now (stations .entry)) (now (footnotes .entry))
+) -> sound_block_rows::After
+    requires { ⌜ (i * rowWidth Timetbls + rowWidth Timetbls ≤ length (now t)) × (block .stops ≤ mostStops) ⌝ }
+    ensures { λ r. ⌜ RowTold counts (now (companies .entry)) (now (modes .entry)) (now (stations .entry)) (now (footnotes .entry))
         block line (rowAt (rowWidth Timetbls) (now (t .entry)) i) r ⌝ }
 {
     let at = i * tables::BLOCK_WIDTH;
     let end = at + tables::BLOCK_WIDTH;
-    sound_block_rows::is_row_sound(
+    sound_block_rows::after_row(
         &t[at..end],
         block,
         line,
-        form,
         counts,
         companies,
         modes,
@@ -51,12 +69,11 @@ fn is_sound_at(
     )
 }
 
-// The rows of a block one after the other.
+// The rows of a block one after the other, up to the next `#`.
 fn walk_rows(
     t: &[u64],
     from: usize,
-    to: usize,
-    form: iff::Form,
+    used: usize,
     counts: references::BlockCounts,
     companies: &[u64],
     modes: &[u64],
@@ -64,69 +81,60 @@ fn walk_rows(
     footnotes: &[u64],
     places: &[u32],
 ) -> Walked
-    requires { ⌜ BlockAt (now t) from to ⌝ }
-    ensures { λ r. ⌜ RowsWalked form counts (now (companies .entry)) (now (modes .entry)) (now (stations .entry)) (now (footnotes .entry))
-        (rowsBetween (rowWidth Timetbls) (now (t .entry)) from to) r ⌝ }
+    requires { ⌜ BlockAt (now t) from used ⌝ }
+    ensures { λ r. ⌜ BlockWalked counts (now (companies .entry)) (now (modes .entry)) (now (stations .entry)) (now (footnotes .entry))
+        (now (t .entry)) from used r ⌝ }
 {
     let mut block = iff::InBlock {
         stand: iff::Stand::Start,
         stops: 0,
     };
     let mut i = from;
-    while i < to {
+    while i < used {
+        if is_next_head(t, from, i) {
+            return Walked::Through(block, i);
+        }
         let line = i - from + 1;
-        if !is_sound_at(
+        let sound_block_rows::After::Stands(next) = after_at(
             t,
             i,
             block,
             line as u64,
-            form,
             counts,
             companies,
             modes,
             stations,
             footnotes,
             places,
-        ) {
+        ) else {
             return Walked::Unsound;
-        }
-        let tag = tables::word_at(t, tables::BLOCK_WIDTH, i, iff::words::TAG);
-        block = sound_block_rows::moved(block, tag);
+        };
+        block = next;
         i += 1;
     }
-    Walked::Through(block)
+    Walked::Through(block, i)
 }
 
 // One block: its rows, that it may end with them, the counts of its `#` row, and the legs.
-fn is_block_sound(
+fn test_block(
     t: &[u64],
     from: usize,
-    to: usize,
-    form: iff::Form,
+    used: usize,
     counts: references::BlockCounts,
     companies: &[u64],
     modes: &[u64],
     stations: &[u64],
     footnotes: &[u64],
     places: &[u32],
-) -> bool
-    requires { ⌜ BlockAt (now t) from to ⌝ }
-    ensures { λ r. ⌜ ((c : Context) → c .form ≡ form
-        → BlockKeysAmong c counts (now (companies .entry)) (now (modes .entry)) (now (stations .entry)) (now (footnotes .entry))
-        → r ≡ soundBlock c (record {
-          top = rowAt (rowWidth Timetbls) (now (t .entry)) from;
-          rest = rowsBetween (rowWidth Timetbls) (now (t .entry)) (suc from) to;
-        })) ⌝ }
+) -> Tested
+    requires { ⌜ BlockAt (now t) from used ⌝ }
+    ensures { λ r. ⌜ BlockTold counts (now (companies .entry)) (now (modes .entry)) (now (stations .entry)) (now (footnotes .entry))
+        (now (t .entry)) from used r ⌝ }
 {
-    let lines = tables::word_at(t, tables::BLOCK_WIDTH, from, iff::words::LINE_COUNT);
-    if lines != (to - from) as u64 {
-        return false;
-    }
-    let Walked::Through(block) = walk_rows(
+    let Walked::Through(block, to) = walk_rows(
         t,
         from,
-        to,
-        form,
+        used,
         counts,
         companies,
         modes,
@@ -134,25 +142,31 @@ fn is_block_sound(
         footnotes,
         places,
     ) else {
-        return false;
+        return Tested::Unsound;
     };
+    let lines = tables::word_at(t, tables::BLOCK_WIDTH, from, iff::words::LINE_COUNT);
+    if lines != (to - from) as u64 {
+        return Tested::Unsound;
+    }
     let stand = block.stand;
     if !order::is_finished(stand) {
-        return false;
+        return Tested::Unsound;
     }
     let stops = block.stops;
     let counted = tables::word_at(t, tables::BLOCK_WIDTH, from, iff::words::STOP_COUNT);
     if counted != stops {
-        return false;
+        return Tested::Unsound;
     }
-    row_legs::are_right(t, from, to, stops)
+    if !row_legs::are_right(t, from, to, stops) {
+        return Tested::Unsound;
+    }
+    Tested::Sound(to)
 }
 
 // All blocks. No row stands before the first `#`. `used` is the number of rows in use, the first line's among them.
 pub fn are_blocks_sound(
     t: &[u64],
     used: usize,
-    form: iff::Form,
     counts: references::BlockCounts,
     companies: &[u64],
     modes: &[u64],
@@ -161,7 +175,7 @@ pub fn are_blocks_sound(
     places: &[u32],
 ) -> bool
     requires { ⌜ (1 ≤ used) × (used * rowWidth Timetbls ≤ length (now t)) ⌝ }
-    ensures { λ r. ⌜ ((c : Context) → c .form ≡ form
+    ensures { λ r. ⌜ ((c : Context)
         → BlockKeysAmong c counts (now (companies .entry)) (now (modes .entry)) (now (stations .entry)) (now (footnotes .entry))
         → r ≡ soundTimetbls c (rowsBetween (rowWidth Timetbls) (now (t .entry)) 1 used)) ⌝ }
 {
@@ -171,21 +185,19 @@ pub fn are_blocks_sound(
     }
     let mut i: usize = 1;
     while i < used {
-        let end = walks::next_head(t, tables::BLOCK_WIDTH, i + 1, used);
-        if !is_block_sound(
+        let Tested::Sound(end) = test_block(
             t,
             i,
-            end,
-            form,
+            used,
             counts,
             companies,
             modes,
             stations,
             footnotes,
             places,
-        ) {
+        ) else {
             return false;
-        }
+        };
         i = end;
     }
     true

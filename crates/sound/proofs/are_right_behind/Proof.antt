@@ -74,7 +74,7 @@ returns c form =
     (c4 .are-groups-right .ensures x (sym form) gr)
     (c5 .are-rows-right4 .ensures x (sym form) st)
     (c6 .are-groups-right2 .ensures x (sym form) gr)
-    (c7 .are-blocks-right .ensures x (sym form) bl)
+    (c7 .are-blocks-right .ensures x bl)
     (c8 .are-groups-right3 .ensures x (sym form) gr)
     (c9 .are-groups-right4 .ensures x (sym form) gr)
     (c10 .are-groups-right5 .ensures x (sym form) gr)

@@ -14,12 +14,12 @@ abbrev from-so-far : tie.Else1 → tie.Start
 from-so-far c = c .before .before .before .before .before .before .before
 
 returns : tie.Need-returns
-returns c x form agree =
+returns c x agree =
     let a = c .before .before .before .before .before .before .before .args in
     handed-on (a .so-far) _ (not-true (a .so-far) (c .if1 .taken))
 
 returns-2 : tie.Need-returns-2
-returns-2 c x form agree =
+returns-2 c x agree =
     let s = from-so-far (c .before) in
     let a = s .args in
     nothing-behind x Timetbls (a .t .now) (a .used) (s .pre) (a .so-far) (not-false (a .so-far) (c .before .if1 .left)) (c .if2 .taken)
@@ -31,11 +31,11 @@ requires c κs =
     (omega (arith, c .if2 .left), inside Timetbls (a .t .now) (a .used) (s .pre))
 
 returns-3 : tie.Need-returns-3
-returns-3 c x form agree =
+returns-3 c x agree =
     let i = c .before in
     let s = from-so-far (i .before) in
     let a = s .args in
-    c .are-blocks-sound .ensures x form agree
+    c .are-blocks-sound .ensures x agree
     ∙ rows-behind x Timetbls (a .t .now) (a .used) (s .pre) (a .so-far) (not-false (a .so-far) (i .before .if1 .left)) (i .if2 .left)
 
 pub are-blocks-right-spec : {M : Type 1} → statement M
