@@ -20,7 +20,7 @@ pub struct Words {
     pub four: u64,
 }
 
-fn untold() -> Words
+pub fn untold() -> Words
     ensures { λ r. ⌜ r .width ≡ 0 ⌝ }
 {
     Words {
