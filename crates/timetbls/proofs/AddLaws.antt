@@ -38,9 +38,12 @@ use Rattle.references.specs.declared.BlockCounts.{BlockCounts}
 use Rattle.blocks.specs.Whole.{WholeBlock, BlockChecked}
 use Rattle.blocks.proofs.WholeLaws.{fresh-service}
 use Rattle.block_rows.specs.Written.{Placeable}
+use Rattle.quick_blocks.specs.declared.Quickly.{Quickly}
+use Rattle.quick_blocks.specs.declared.Quickly.the-variants.{Put}
+use Rattle.quick_blocks.specs.Whole.{QuickPut}
 use Rattle.block_rows.proofs.RowLaws.{rows-used, rows-count, block-keys}
 use Rattle.timetbls.specs.declared.BlockPut.the-variants.{Kept, Faulty}
-use Rattle.timetbls.specs.Blocks.{StrayTold, BlockTested, Remembered, Addable, BlockAdded}
+use Rattle.timetbls.specs.Blocks.{StrayTold, BlockTested, BlockPlaced, Remembered, Addable, BlockAdded}
 use Rattle.timetbls.proofs.GroupLaws.{front-open, front-closed, front-nil}
 
 -- A LINE BEFORE THE FIRST BLOCK
@@ -86,6 +89,44 @@ tested form b t counts co mo st fo service fresh r h s f k =
       whole = k .whole;
     }
 
+-- A BLOCK WHOSE ROWS ARE PUT
+module _ (form : Form) (b : List ℕ) (fresh : Bool) (counts : BlockCounts) (co mo st fo was is : List ℕ) (row : ℕ) where
+  -- it was checked first
+  module _ (x : Checked) (y : BlockChecked form b fresh counts co mo st fo x) where
+    pub placed-broken : (w : Reason) (j : ℕ) → x ≡ Broken w j → BlockPlaced form b fresh counts co mo st fo was is row (Broken w j)
+    placed-broken w j e = record { checked = rw e at y; rows = λ k n q. absurd (let z : _≡_ {A = ℕ} 0 1 = cc in omega arith) }
+
+    pub can-be-placed : (row + linesIn (asBlock b)) * rowWidth Timetbls ≤ length was → (k n : ℕ) → x ≡ Whole k n → Placeable form b was k n row
+    can-be-placed h k n e = let z = y .whole k n e in record { whole = z; room = rw (z .counted) h }
+
+    pub placed-whole : (k n : ℕ) → x ≡ Whole k n
+        → is ≡ take (row * rowWidth Timetbls) was ++ (joined (blockRows form (asBlock b)) ++ drop ((row + k) * rowWidth Timetbls) was)
+        → BlockPlaced form b fresh counts co mo st fo was is row (Whole k n)
+    placed-whole k n e r =
+        record {
+          checked = rw e at y;
+          rows = λ k′ n′ q. let g : k ≡ k′ = cc in rw g at r;
+        }
+
+  -- it was read in one pass
+  pub placed-quickly : (x : Quickly) → QuickPut form b fresh counts co mo st fo was is row x → (k n : ℕ) → x ≡ Put k n
+      → BlockPlaced form b fresh counts co mo st fo was is row (Whole k n)
+  placed-quickly x y k n e =
+      let z = y .done k n e in
+      record { checked = z .checked; rows = λ k′ n′ q. let g : k ≡ k′ = cc in rw g at (z .rows) }
+
+-- or that was begun, and it was checked then: what rows of it had been put are overwritten
+pub placed-after : (form : Form) (b : List ℕ) (fresh : Bool) (counts : BlockCounts) (co mo st fo was mid is : List ℕ) (row : ℕ)
+    (x : Quickly) → QuickPut form b fresh counts co mo st fo was mid row x
+    → (r : Checked) → BlockPlaced form b fresh counts co mo st fo mid is row r → BlockPlaced form b fresh counts co mo st fo was is row r
+placed-after form b fresh counts co mo st fo was mid is row x y r z =
+    record {
+      checked = z .checked;
+      rows =
+          λ k n e. let q : k ≡ linesIn (asBlock b) = z .checked .whole k n e .counted in
+          z .rows k n e ∙ rw (q, y .front, y .behind);
+    }
+
 -- ROWS BEHIND ROWS
 abbrev width : ℕ
 width = rowWidth Timetbls
@@ -121,8 +162,9 @@ module _ (form : Form) (b was : List ℕ) (counts : BlockCounts) (co mo st fo : 
     whole : WholeBlock form b k n
     whole = y .whole k n e
 
-    pub placeable : Placeable form b was k n row
-    placeable = record { whole = whole; room = rw (whole .counted) (a .room) }
+    -- there is room for its rows
+    pub room-for : (row + k) * width ≤ length was
+    room-for = rw (whole .counted) (a .room)
 
     abbrev service : ℕ
     service = serviceOf form (asBlock b)
@@ -140,7 +182,7 @@ module _ (form : Form) (b was : List ℕ) (counts : BlockCounts) (co mo st fo : 
     both-used = each-append (Used width) (rowsIn Timetbls was) rows (table-rows-used width (omega arith) was) used
 
     fits-both : length (rowsIn Timetbls was ++ rows) * width ≤ length was
-    fits-both = omega (arith, length-append (rowsIn Timetbls was) rows, count, a .holding .rows, placeable .room)
+    fits-both = omega (arith, length-append (rowsIn Timetbls was) rows, count, a .holding .rows, room-for)
 
     module _ (is : List ℕ) (m : length is ≡ length was) (w : is ≡ take (row * width) was ++ (joined rows ++ drop ((row + k) * width) was)) where
       filled : is ≡ fill width (length was) (rowsIn Timetbls was ++ rows)

@@ -2,12 +2,12 @@
 use Prim.Native.Nat.{ℕ, _+_, _-_, _*_, _≤_, _<_}
 use mathlib.Core.Path.{_≡_}
 use mathlib.Core.List.{List, [], _∷_, _++_}
-use mathlib.Core.Bool.{true, false}
+use mathlib.Core.Bool.{Bool, true, false}
 use lib.ListN.{length, take, drop}
 use Rattle.iff.specs.Lists.{front, any}
 use Rattle.iff.specs.Refusals.{verdictAt, scan}
 use Rattle.iff.specs.Lines.{Line, lines, isHash}
-use Rattle.iff.specs.Tables.{Row, rowWidth, rowsIn, fill, rising}
+use Rattle.iff.specs.Tables.{Row, rowWidth, rowsIn, joined, fill, rising}
 use Rattle.iff.specs.declared.File.the-variants.{Timetbls}
 use Rattle.iff.specs.declared.Form.{Form}
 use Rattle.iff.specs.declared.Place.the-variants.{At}
@@ -26,7 +26,7 @@ use Rattle.references.specs.declared.BlockCounts.{BlockCounts}
 use Rattle.references.specs.Agree.{BlockKeys, BlockKeysAmong}
 use Rattle.blocks.specs.declared.Checked.{Checked}
 use Rattle.blocks.specs.declared.Checked.the-variants.{Whole}
-use Rattle.blocks.specs.Whole.{checkedAt, WholeBlock}
+use Rattle.blocks.specs.Whole.{checkedAt, WholeBlock, BlockChecked}
 use Rattle.reading.specs.declared.RowsRead.{RowsRead}
 use Rattle.reading.specs.Reading.{Begun, RowsDone, rowsVerdict, risesOf}
 use Rattle.timetbls.specs.declared.BlockPut.{BlockPut}
@@ -73,6 +73,19 @@ pub record BlockTested (form : Form) (b t : List ℕ) (counts : BlockCounts) (co
       (c : Context) → c .form ≡ form → BlockKeysAmong c counts co mo st fo → (o : ℕ)
       → checkedAt o r ≡ blockVerdict c (keysIn Timetbls t) o (asBlock b)
   pub whole : (k n : ℕ) → r ≡ Whole k n → WholeBlock form b k n
+
+-- A BLOCK WHOSE ROWS ARE PUT, if it is whole, behind the first `row`
+pub record BlockPlaced (form : Form) (b : List ℕ) (fresh : Bool) (counts : BlockCounts) (co mo st fo was is : List ℕ) (row : ℕ) (r : Checked) : Type 0 where
+  pub checked : BlockChecked form b fresh counts co mo st fo r
+  pub rows :
+      (k n : ℕ) → r ≡ Whole k n
+      → is ≡ take (row * rowWidth Timetbls) was ++ (joined (blockRows form (asBlock b)) ++ drop ((row + k) * rowWidth Timetbls) was)
+
+pub record BlockTried (form : Form) (b was is : List ℕ) (counts : BlockCounts) (co mo st fo : List ℕ) (row : ℕ) (r : Checked) : Type 0 where
+  pub tested : BlockTested form b was counts co mo st fo r
+  pub rows :
+      (k n : ℕ) → r ≡ Whole k n
+      → is ≡ take (row * rowWidth Timetbls) was ++ (joined (blockRows form (asBlock b)) ++ drop ((row + k) * rowWidth Timetbls) was)
 
 -- A SERVICE THAT IS REMEMBERED, with its mark
 pub record Remembered (run : KeyRun) (was : List ℕ) (service : ℕ) (is : List ℕ) (r : KeyRun) : Type 0 where

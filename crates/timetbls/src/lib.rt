@@ -2,12 +2,13 @@
 // its place.
 ghost use mathlib.Core.Path.{_≡_};
 ghost use mathlib.Core.Bool.{true};
-ghost use Prim.Native.Nat.{_≤_, _<_};
+ghost use Prim.Native.Nat.{_+_, _*_, _≤_, _<_};
 ghost use lib.ListN.{length, drop};
 ghost use Rattle.iff.specs.Lines.{lines, isHash};
 ghost use Rattle.iff.specs.declared.Form.{Form};
 ghost use Rattle.iff.specs.declared.File.the-variants.{Timetbls};
-ghost use Rattle.iff_rules.specs.Rows.{asBlock};
+ghost use Rattle.iff.specs.Tables.{rowWidth};
+ghost use Rattle.iff_rules.specs.Rows.{linesIn, asBlock};
 ghost use Rattle.iff_rules.specs.Load.{serviceOf};
 ghost use Rattle.iff.specs.Refusals.{fine};
 ghost use Rattle.references.specs.Agree.{BlockKeys};
@@ -15,7 +16,7 @@ ghost use Rattle.keys.specs.Lookup.{keysIn};
 ghost use Rattle.reading.specs.Reading.{Ready, FileRead};
 ghost use Rattle.fresh_keys.specs.Runs.{runOf};
 ghost use Rattle.fresh_keys.specs.Marks.{slots, Marked};
-ghost use Rattle.timetbls.specs.Blocks.{Clean, NextBlock, StrayTold, BlockTested, Remembered, Addable, BlockAdded};
+ghost use Rattle.timetbls.specs.Blocks.{Clean, NextBlock, StrayTold, BlockPlaced, BlockTried, Remembered, Addable, BlockAdded};
 ghost use Rattle.timetbls.specs.Blocks.{BlocksReady, BlocksAdded, AfterFirst, BlocksRead};
 
 // What became of a block: what is remembered of the services with it, and where the next block's rows go; or why it is refused, and at which line.
@@ -44,13 +45,13 @@ fn next_head(text: &[u8], from: usize) -> usize
     at
 }
 
-// A block's service must be new to those before it, whose rows the table holds.
-fn test_block(
+// A block that the quick reader left, checked, and then written in the place of what that reader put there.
+fn check_then_write(
     block: &[u8],
     form: iff::Form,
-    run: fresh_keys::KeyRun,
-    marks: &[u8],
-    t: &[u64],
+    fresh: bool,
+    t: &mut [u64],
+    row: usize,
     counts: references::BlockCounts,
     companies: &[u64],
     modes: &[u64],
@@ -58,17 +59,104 @@ fn test_block(
     footnotes: &[u64],
     places: &[u32],
 ) -> blocks::Checked
-    requires { ⌜ (run ≡ runOf (keysIn Timetbls (now t))) × Marked (now marks) (keysIn Timetbls (now t))
-        × (isHash (asBlock (now block) .top) ≡ true) ⌝ }
-    ensures { λ r. ⌜ BlockTested form (now (block .entry)) (now (t .entry)) counts
-        (now (companies .entry)) (now (modes .entry)) (now (stations .entry)) (now (footnotes .entry)) r ⌝ }
+    requires { ⌜ (row + linesIn (asBlock (now block))) * rowWidth Timetbls ≤ length (now t) ⌝ }
+    ensures { λ r. ⌜ BlockPlaced form (now (block .entry)) fresh counts
+        (now (companies .entry)) (now (modes .entry)) (now (stations .entry)) (now (footnotes .entry)) (now (t .entry)) (now (t .exit)) row r ⌝ }
 {
-    let service = blocks::service_of(block);
-    let fresh = fresh_keys::is_fresh_service(marks, run, t, service);
-    blocks::check_block(
+    match blocks::check_block(
         block,
         form,
         fresh,
+        counts,
+        companies,
+        modes,
+        stations,
+        footnotes,
+        places,
+    ) {
+        blocks::Checked::Broken(why, line) => blocks::Checked::Broken(why, line),
+        blocks::Checked::Whole(k, n) => {
+            block_rows::write_block(block, form, k, n, t, row);
+            blocks::Checked::Whole(k, n)
+        }
+    }
+}
+
+// A block with its rows behind the first `row` rows, if it is whole: at one look if it is told to be right, else as above.
+fn place_block(
+    block: &[u8],
+    form: iff::Form,
+    fresh: bool,
+    t: &mut [u64],
+    row: usize,
+    counts: references::BlockCounts,
+    companies: &[u64],
+    modes: &[u64],
+    stations: &[u64],
+    footnotes: &[u64],
+    places: &[u32],
+) -> blocks::Checked
+    requires { ⌜ (0 < length (now block)) × ((row + linesIn (asBlock (now block))) * rowWidth Timetbls ≤ length (now t)) ⌝ }
+    ensures { λ r. ⌜ BlockPlaced form (now (block .entry)) fresh counts
+        (now (companies .entry)) (now (modes .entry)) (now (stations .entry)) (now (footnotes .entry)) (now (t .entry)) (now (t .exit)) row r ⌝ }
+{
+    match quick_blocks::put_block(
+        block,
+        form,
+        fresh,
+        t,
+        row,
+        counts,
+        companies,
+        modes,
+        stations,
+        footnotes,
+        places,
+    ) {
+        quick_blocks::Quickly::Put(k, n) => blocks::Checked::Whole(k, n),
+        quick_blocks::Quickly::Left => check_then_write(
+            block,
+            form,
+            fresh,
+            t,
+            row,
+            counts,
+            companies,
+            modes,
+            stations,
+            footnotes,
+            places,
+        ),
+    }
+}
+
+// A block's service must be new to those before it, whose rows the table holds.
+fn try_block(
+    block: &[u8],
+    form: iff::Form,
+    run: fresh_keys::KeyRun,
+    marks: &[u8],
+    t: &mut [u64],
+    row: usize,
+    counts: references::BlockCounts,
+    companies: &[u64],
+    modes: &[u64],
+    stations: &[u64],
+    footnotes: &[u64],
+    places: &[u32],
+) -> blocks::Checked
+    requires { ⌜ Addable (now block) (now t) (now marks) run row ⌝ }
+    ensures { λ r. ⌜ BlockTried form (now (block .entry)) (now (t .entry)) (now (t .exit)) counts
+        (now (companies .entry)) (now (modes .entry)) (now (stations .entry)) (now (footnotes .entry)) row r ⌝ }
+{
+    let service = blocks::service_of(block);
+    let fresh = fresh_keys::is_fresh_service(marks, run, t, service);
+    place_block(
+        block,
+        form,
+        fresh,
+        t,
+        row,
         counts,
         companies,
         modes,
@@ -88,7 +176,7 @@ fn after_block(run: fresh_keys::KeyRun, marks: &mut [u8], block: &[u8]) -> fresh
     fresh_keys::next_run(run, service)
 }
 
-// One block: checked, and then written behind the `row` rows that the table holds.
+// One block: tested, and its rows put behind the `row` rows that the table holds.
 fn add_block(
     block: &[u8],
     form: iff::Form,
@@ -107,12 +195,13 @@ fn add_block(
     ensures { λ r. ⌜ BlockAdded form (now (block .entry)) (now (t .entry)) (now (t .exit)) (now (marks .exit)) counts
         (now (companies .entry)) (now (modes .entry)) (now (stations .entry)) (now (footnotes .entry)) r ⌝ }
 {
-    match test_block(
+    match try_block(
         block,
         form,
         run,
         marks,
         t,
+        row,
         counts,
         companies,
         modes,
@@ -121,8 +210,7 @@ fn add_block(
         places,
     ) {
         blocks::Checked::Broken(why, line) => BlockPut::Faulty(why, line),
-        blocks::Checked::Whole(k, n) => {
-            block_rows::write_block(block, form, k, n, t, row);
+        blocks::Checked::Whole(k, _) => {
             let next = row + k as usize;
             BlockPut::Kept(after_block(run, marks, block), next)
         }
@@ -204,7 +292,7 @@ fn stray_test(text: &[u8], from: usize) -> iff::Test
 }
 
 // The lines after the first, which begin at `from`, into a table that holds the first line's row. A stray line is line 2 of block 0.
-// The places of stations and footnotes are found once, since nearly every line names one. They share 16381 first slots, which is a prime
+// The places of what a block names are found once, since nearly every line names something. They share 16381 first slots, which is a prime
 // number, and as many more as are tried for a key.
 pub fn read_blocks(
     text: &[u8],
@@ -238,6 +326,18 @@ pub fn read_blocks(
                 iff::File::Groups(iff::GroupFile::Footnote),
                 footnotes,
                 counts.footnotes,
+                &mut places,
+            );
+            keys::index_rows(
+                iff::File::Rows(iff::RowFile::Company),
+                companies,
+                counts.companies,
+                &mut places,
+            );
+            keys::index_rows(
+                iff::File::Rows(iff::RowFile::Trnsmode),
+                modes,
+                counts.modes,
                 &mut places,
             );
             let mut marks = [0u8; 524288];

@@ -10,7 +10,7 @@ abbrev start : tie.After-stray-test → tie.Start
 start x = x .before .before .before .before .before .before .before
 
 abbrev passed-of-marks : tie.After-marks → tie.After-enum-told
-passed-of-marks m = m .before .before .before .before .before .before .before .before
+passed-of-marks m = m .before .before .before .before .before .before .before .before .before .before .before .before .before .before
 
 add-blocks-requires : tie.Need-add-blocks-requires
 add-blocks-requires c κs =
@@ -27,7 +27,7 @@ returns-2 : tie.Need-returns-2
 returns-2 c =
     let y = c .before .before .before in
     let m = y .before .before .before in
-    let n = m .before .before .before .before .before .before .before in
+    let n = m .before .before .before .before .before .before .before .before .before .before .before .before .before in
     let e = passed-of-marks m in
     read-all _ _ _ _ _ _ _ _ _ (e .before .before .stray-test .ensures) (e .enum-told .given .1) _ (n .count-for-blocks .ensures)
     _ _ (y .add-blocks .ensures) (y .add-blocks .kept .1 .1 .1 .1 .0)
@@ -38,6 +38,10 @@ read-blocks-spec =
     (tie.spec
     (λ c κs. search needs)
     (λ c. search needs)
+    (λ c. search needs)
+    (λ c κs. search needs)
+    (λ c. search needs)
+    (λ c κs. search needs)
     (λ c. search needs)
     (λ c κs. search needs)
     (λ c. search needs)

@@ -1,0 +1,4 @@
+pub mod LineLaws
+pub mod PutLaws
+pub mod DriveLaws
+pub mod WholeLaws
