@@ -28,7 +28,7 @@ use Rattle.tables.proofs.Filled.{drop-replicate}
 use Rattle.records.specs.Layouts.{lineOf}
 use Rattle.reading.specs.Reading.{FirstLegible, headLine, Ready, Split, FirstRead}
 use Rattle.reading.specs.declared.Begin.the-variants.{Rest, Broken}
-use Rattle.heads.proofs.HeadLaws.{headTests, first-is, laid-fits}
+use Rattle.first_lines.proofs.HeadLaws.{headTests, first-is, laid-fits}
 
 -- a first line that passes is legible
 passing : (h a q v m : Bool) → Passes ≡ headTests h a q v m → (a ≡ true) × (v ≡ true)

@@ -1,4 +1,3 @@
-pub mod HeadLaws
 pub mod BeginLaws
 pub mod FileLaws
 pub mod DeliveryLaws

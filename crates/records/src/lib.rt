@@ -10,7 +10,7 @@ ghost use lib.Seq.{slice};
 ghost use Rattle.iff.specs.Bytes.{hash, digit, zeroOrOne};
 ghost use Rattle.iff.specs.Lists.{all};
 ghost use Rattle.iff.specs.Columns.{on, recordFields, rowRecord, groupRecord, blockRecord, picture, fits, laid, columns};
-ghost use Rattle.iff.specs.Values.{readable, words, wordCount, fieldRight, fieldWords, isWildcard, stopOf, bits, vectorWords, vectorWidth};
+ghost use Rattle.iff.specs.Values.{readable, words, wordCount, fieldRight, fieldWords, isWildcard, bits, vectorWords, vectorWidth};
 ghost use Rattle.iff.specs.Tables.{padded};
 ghost use Rattle.records.specs.Layouts.{lineOf, pictures, fields, fieldAt, spansOf, wordBy, rightBy, rightIn, pictureIn, readableIn};
 ghost use Rattle.records.specs.Layouts.{inOrder, layoutTest};
@@ -224,8 +224,8 @@ struct Looks(bool, bool);
 fn looks_by(line: &[u8], picture: &[u8]) -> Looks
     ensures { λ r. ⌜ LooksBy (now (line .entry)) (now (picture .entry)) r ⌝ }
 {
-    let fitting = text::fits_picture(line, picture);
-    Looks(fitting, text::has_figures(line, picture))
+    let fitting = fields::fits_picture(line, picture);
+    Looks(fitting, fields::has_figures(line, picture))
 }
 
 // Both at one look, since the pictures are put together at every use.
@@ -293,7 +293,7 @@ fn is_company_or_any(field: &[u8]) -> bool
     if text::all_digits(field) {
         return true;
     }
-    text::is_wildcard(field)
+    fields::is_wildcard(field)
 }
 
 // A field of a class is right; the digits of a number are figures.
@@ -302,7 +302,7 @@ fn is_right(class: u8, field: &[u8]) -> bool
 {
     match class {
         b'a' => is_company_or_any(field),
-        b'c' => !text::all_blank(field),
+        b'c' => !fields::all_blank(field),
         _ => true,
     }
 }
@@ -396,25 +396,14 @@ pub fn is_readable(record: iff::Record, form: iff::Form, line: &[u8]) -> bool
 
 // Rows.
 
-// Stop 000 is the first, and 999 the last, whose number the block gives.
-fn stop_of(n: u64, k: u64) -> u64
-    ensures { λ r. ⌜ r ≡ stopOf n k ⌝ }
-{
-    match k {
-        0 => 1,
-        999 => n,
-        _ => k,
-    }
-}
-
 fn word_of(class: u8, n: u64, field: &[u8]) -> u64
     requires { ⌜ length (now field) ≤ 8 ⌝ }
     ensures { λ r. ⌜ r ≡ wordBy class n (now (field .entry)) ⌝ }
 {
     match class {
         b'n' => text::number(field),
-        b's' => stop_of(n, text::number(field)),
-        b'a' => text::company_or_any(field),
+        b's' => fields::stop_of(n, text::number(field)),
+        b'a' => fields::company_or_any(field),
         _ => text::code(field),
     }
 }
@@ -453,7 +442,7 @@ fn marks_at(line: &[u8], k: usize) -> u64
     if line.len() <= at {
         return 0;
     }
-    text::mark_word(&line[at..])
+    fields::mark_word(&line[at..])
 }
 
 fn put_marks(tag: u64, line: &[u8], out: &mut [u64])

@@ -1,9 +1,9 @@
 -- `text::is_wildcard` meets its contract: the wildcard of a width is `*` and blanks to that width. Assumes nothing.
 use mathlib.Core.Path.{_∙_}
 use borrow.Author.Needs.{needs}
 use Rattle.text.proofs.ValueLaws.{wild-none, wild-other, wild-rest}
-use Rattle.text.proofs.is_wildcard.Statement.{statement}
-use Rattle.text.proofs.is_wildcard.Tie as tie
+use Rattle.fields.proofs.is_wildcard.Statement.{statement}
+use Rattle.fields.proofs.is_wildcard.Tie as tie
 
 returns : tie.Need-returns
 returns c = wild-none _ (c .if1 .taken)

@@ -6,9 +6,9 @@ use borrow.Author.Tests.{eq-eqb, ne-eqb}
 use lib.Dec.{eqb}
 use lib.ListN.{length}
 use Rattle.iff.specs.Bytes.{blank}
 use Rattle.text.proofs.PictureLaws.{Held, breaks, holds-on, held-all}
-use Rattle.text.proofs.all_blank.Statement.{statement}
-use Rattle.text.proofs.all_blank.Tie as tie
+use Rattle.fields.proofs.all_blank.Statement.{statement}
+use Rattle.fields.proofs.all_blank.Tie as tie
 
 abbrev Inv-loop : tie.InvT-loop
 Inv-loop field blanks₀ blanks = Held (eqb blank) field blanks

@@ -1,4 +1,4 @@
--- `heads::first_line` meets its contract: the tests in their order. Assumes nothing.
+-- `first_lines::first_line` meets its contract: the tests in their order. Assumes nothing.
 use mathlib.Core.Path.{_≡_, refl, sym, _∙_}
 use mathlib.Core.Bool.{true, false}
 use borrow.Author.Needs.{needs}
@@ -8,9 +8,9 @@ use Rattle.iff.specs.Refusals.{firstTest}
 use Rattle.iff.specs.Columns.{fits, picture, recordFields, form424}
 use Rattle.iff.specs.declared.Record.the-variants.{FirstRecord}
 use Rattle.records.specs.Layouts.{lineOf}
-use Rattle.heads.proofs.HeadLaws.{headTests, head-by, laid-fits, legible-first}
-use Rattle.heads.proofs.first_line.Statement.{statement}
-use Rattle.heads.proofs.first_line.Tie as tie
+use Rattle.first_lines.proofs.HeadLaws.{headTests, head-by, laid-fits, legible-first}
+use Rattle.first_lines.proofs.first_line.Statement.{statement}
+use Rattle.first_lines.proofs.first_line.Tie as tie
 
 returns : tie.Need-returns
 unfolding headTests firstTest

@@ -2,8 +2,8 @@
 use mathlib.Core.Path.{sym, _∙_}
 use borrow.Author.Needs.{needs}
 use Rattle.iff.specs.Values.{companyOrAny}
-use Rattle.text.proofs.company_or_any.Statement.{statement}
-use Rattle.text.proofs.company_or_any.Tie as tie
+use Rattle.fields.proofs.company_or_any.Statement.{statement}
+use Rattle.fields.proofs.company_or_any.Tie as tie
 
 returns : tie.Need-returns
 unfolding companyOrAny

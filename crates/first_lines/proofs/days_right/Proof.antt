@@ -1,13 +1,13 @@
--- `heads::days_right` meets its contract. Assumes nothing.
+-- `first_lines::days_right` meets its contract. Assumes nothing.
 use mathlib.Core.Path.{sym, _∙_}
 use mathlib.Core.Bool.{true}
 use native.Mathlib.Omega.{arith}
 use borrow.Author.Needs.{needs}
 use Rattle.iff.specs.Columns.{form424}
 use Rattle.records.specs.Layouts.{lineOf}
-use Rattle.heads.proofs.HeadLaws.{first-legible, first-days}
-use Rattle.heads.proofs.days_right.Statement.{statement}
-use Rattle.heads.proofs.days_right.Tie as tie
+use Rattle.first_lines.proofs.HeadLaws.{first-legible, first-days}
+use Rattle.first_lines.proofs.days_right.Statement.{statement}
+use Rattle.first_lines.proofs.days_right.Tie as tie
 
 returns : tie.Need-returns
 returns c =

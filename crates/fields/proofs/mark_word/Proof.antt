@@ -3,9 +3,9 @@ use mathlib.Core.Path.{_≡_, ap, _∙_}
 use Prim.Native.Nat.{ℕ, _-_}
 use borrow.Author.Needs.{needs}
 use lib.ListN.{getD}
 use Rattle.text.proofs.ValueLaws.{Marked, marked-none, marked-room, marked-fits, marked-next, marked-all}
-use Rattle.text.proofs.mark_word.Statement.{statement}
-use Rattle.text.proofs.mark_word.Tie as tie
+use Rattle.fields.proofs.mark_word.Statement.{statement}
+use Rattle.fields.proofs.mark_word.Tie as tie
 
 abbrev Inv-loop : tie.InvT-loop
 Inv-loop marks word₀ i₀ word i = Marked marks i word

@@ -2,8 +2,8 @@
 use borrow.Author.Needs.{needs}
 use borrow.Author.Tests.{eq-eqb, ne-eqb}
 use Rattle.iff.specs.Columns.{column}
-use Rattle.text.proofs.is_column.Statement.{statement}
-use Rattle.text.proofs.is_column.Tie as tie
+use Rattle.fields.proofs.is_column.Statement.{statement}
+use Rattle.fields.proofs.is_column.Tie as tie
 
 returns : tie.Need-returns
 unfolding column

@@ -2,8 +2,8 @@
 use borrow.Author.Needs.{needs}
 use borrow.Author.Tests.{eq-eqb, ne-eqb}
 use Rattle.iff.specs.Columns.{figure}
-use Rattle.text.proofs.is_figure.Statement.{statement}
-use Rattle.text.proofs.is_figure.Tie as tie
+use Rattle.fields.proofs.is_figure.Statement.{statement}
+use Rattle.fields.proofs.is_figure.Tie as tie
 
 returns : tie.Need-returns
 unfolding figure

@@ -1,7 +1,7 @@
 -- 000 and 999 are the two stops that go by another name. Assumes nothing.
 use borrow.Author.Tests.{ne-eqb}
-use Rattle.records.proofs.stop_of.Statement.{statement}
-use Rattle.records.proofs.stop_of.Tie as tie
+use Rattle.fields.proofs.stop_of.Statement.{statement}
+use Rattle.fields.proofs.stop_of.Tie as tie
 
 pub stop-of-spec : {M : Type 1} → statement M
 stop-of-spec =

@@ -3,9 +3,9 @@ use mathlib.Core.Path.{sym, _∙_}
 use borrow.Author.Needs.{needs}
 use borrow.Author.Tests.{not-true, not-false}
 use Rattle.iff.specs.Columns.{figure}
 use Rattle.text.proofs.PictureLaws.{Passed, unequal, begins, fails, passes, ended}
-use Rattle.text.proofs.has_figures.Statement.{statement}
-use Rattle.text.proofs.has_figures.Tie as tie
+use Rattle.fields.proofs.has_figures.Statement.{statement}
+use Rattle.fields.proofs.has_figures.Tie as tie
 
 abbrev Inv-loop : tie.InvT-loop
 Inv-loop line picture figures-left₀ figures-left = Passed figure line picture figures-left

@@ -1,4 +1,4 @@
--- `heads::put_first` meets its contract. Assumes nothing.
+-- `first_lines::put_first` meets its contract. Assumes nothing.
 use mathlib.Core.Path.{ap}
 use native.Mathlib.Omega.{arith}
 use borrow.Author.Needs.{needs}
@@ -7,9 +7,9 @@ use Rattle.iff.specs.Columns.{form424}
 use Rattle.iff.specs.Tables.{rowWidth}
 use Rattle.iff_rules.specs.Rows.{lineOne}
 use Rattle.tables.proofs.Widths.{widths}
-use Rattle.heads.proofs.HeadLaws.{row-legible, row-flagged, row-numbered}
-use Rattle.heads.proofs.put_first.Statement.{statement}
-use Rattle.heads.proofs.put_first.Tie as tie
+use Rattle.first_lines.proofs.HeadLaws.{row-legible, row-flagged, row-numbered}
+use Rattle.first_lines.proofs.put_first.Statement.{statement}
+use Rattle.first_lines.proofs.put_first.Tie as tie
 
 abbrev start-of : tie.After-put-words → tie.Start
 start-of c = c .before .before .before .before

@@ -3,9 +3,9 @@ use mathlib.Core.Path.{sym, _∙_}
 use borrow.Author.Needs.{needs}
 use borrow.Author.Tests.{not-true, not-false}
 use Rattle.iff.specs.Columns.{column}
 use Rattle.text.proofs.PictureLaws.{Passed, unequal, begins, fails, passes, ended}
-use Rattle.text.proofs.fits_picture.Statement.{statement}
-use Rattle.text.proofs.fits_picture.Tie as tie
+use Rattle.fields.proofs.fits_picture.Statement.{statement}
+use Rattle.fields.proofs.fits_picture.Tie as tie
 
 abbrev Inv-loop : tie.InvT-loop
 Inv-loop line picture columns-left₀ columns-left = Passed column line picture columns-left
