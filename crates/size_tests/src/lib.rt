@@ -79,7 +79,7 @@ pub fn room_test(v: Verdict, file: File, text: &[u8], words: usize) -> Verdict
     match v {
         Verdict::Fault(_, _) => v,
         Verdict::Fine => {
-            let count = text::count_lines(text);
+            let count = line_counts::count_lines(text);
             let room = tables::room(file, words);
             if count <= room {
                 return Verdict::Fine;
