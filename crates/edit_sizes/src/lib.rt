@@ -77,7 +77,7 @@ pub fn test_sizes(
     if !fits_limit(form, t, used, from, to, block.len()) {
         return Verdict::Fault(Reason::TooLong, Place::At(File::Timetbls, 0, 0));
     }
-    if !has_room(t, used, from, to, text::count_lines(block)) {
+    if !has_room(t, used, from, to, line_counts::count_lines(block)) {
         return Verdict::Fault(Reason::NoRoom, Place::At(File::Timetbls, 0, 0));
     }
     Verdict::Fine

@@ -7,7 +7,6 @@ ghost use Rattle.iff.specs.Bytes.{hash};
 ghost use Rattle.iff.specs.Lists.{has};
 ghost use Rattle.iff.specs.declared.File.the-variants.{Timetbls};
 ghost use Rattle.keys.specs.Lookup.{keysIn};
-ghost use Rattle.fresh_keys.specs.Marks.{slots, slotOf, otherOf, withMarks, Marked};
 ghost use Rattle.fresh_keys.specs.Runs.{noKeys, stillRises, stepRun, runOf};
 
 // SERVICES COUNTED
@@ -91,46 +90,4 @@ pub fn is_fresh(file: iff::File, run: KeyRun, t: &[u64], key: u64) -> bool
         return true;
     }
     !keys::names(file, t, key)
-}
-
-// MARKS
-
-// Where a key's marks stand.
-fn slot(key: u64) -> usize
-    ensures { λ r. ⌜ r ≡ slotOf key ⌝ }
-{
-    (key % 262144) as usize
-}
-
-fn other_slot(key: u64) -> usize
-    ensures { λ r. ⌜ r ≡ otherOf key ⌝ }
-{
-    (262144 + key / 382 % 262144) as usize
-}
-
-// Marks a key.
-pub fn mark(marks: &mut [u8], key: u64)
-    requires { ⌜ length (now marks) ≡ slots ⌝ }
-    ensures { λ _. ⌜ now (marks .exit) ≡ withMarks (now (marks .entry)) key ⌝ }
-{
-    let k = slot(key);
-    marks[k] = 1;
-    let other = other_slot(key);
-    marks[other] = 1;
-}
-
-// A service that the table does not have yet. One that lacks a mark is new whatever the order of the services, and without a search.
-pub fn is_fresh_service(marks: &[u8], run: KeyRun, t: &[u64], key: u64) -> bool
-    requires { ⌜ (run ≡ runOf (keysIn Timetbls (now t))) × Marked (now marks) (keysIn Timetbls (now t)) ⌝ }
-    ensures { λ r. ⌜ r ≡ not (has key (keysIn Timetbls (now (t .entry)))) ⌝ }
-{
-    let k = slot(key);
-    if marks[k] == 0 {
-        return true;
-    }
-    let other = other_slot(key);
-    if marks[other] == 0 {
-        return true;
-    }
-    is_fresh(iff::File::Timetbls, run, t, key)
 }

@@ -126,7 +126,7 @@ fn transport(text: &[u8], at: usize, n: u64) -> Words
     }
     let end = at + 13;
     let line = &text[at..end];
-    if text::all_blank(&line[1..5]) {
+    if fields::all_blank(&line[1..5]) {
         return untold();
     }
     let mode = text::code(&line[1..5]);
@@ -151,7 +151,7 @@ fn attribute(text: &[u8], at: usize, n: u64) -> Words
     }
     let end = at + 19;
     let line = &text[at..end];
-    if text::all_blank(&line[1..5]) {
+    if fields::all_blank(&line[1..5]) {
         return untold();
     }
     let code = text::code(&line[1..5]);
@@ -177,7 +177,7 @@ fn plain_stop(text: &[u8], at: usize, n: u64) -> Words
     }
     let end = at + 13;
     let line = &text[at..end];
-    if text::all_blank(&line[1..8]) {
+    if fields::all_blank(&line[1..8]) {
         return untold();
     }
     let station = text::code(&line[1..8]);
@@ -201,7 +201,7 @@ fn interval(text: &[u8], at: usize, n: u64) -> Words
     }
     let end = at + 18;
     let line = &text[at..end];
-    if text::all_blank(&line[1..8]) {
+    if fields::all_blank(&line[1..8]) {
         return untold();
     }
     let station = text::code(&line[1..8]);
@@ -226,7 +226,7 @@ fn passed(text: &[u8], at: usize, n: u64) -> Words
     }
     let end = at + 8;
     let line = &text[at..end];
-    if text::all_blank(&line[1..8]) {
+    if fields::all_blank(&line[1..8]) {
         return untold();
     }
     let station = text::code(&line[1..8]);

@@ -103,26 +103,6 @@ pub fn line_at(text: &[u8], at: usize) -> LineSpan
     }
 }
 
-// A remainder without CR LF counts as a line.
-pub fn count_lines(text: &[u8]) -> usize
-    ensures { λ r. ⌜ r ≡ length (lines (now (text .entry))) ⌝ }
-{
-    let mut n: usize = 0;
-    let mut at: usize = 0;
-    while at < text.len() {
-        n += 1;
-        match line_end(text, at) {
-            iff::Eol::Ended(e) => {
-                at = e + 2;
-            }
-            iff::Eol::Unended => {
-                at = text.len();
-            }
-        }
-    }
-    n
-}
-
 // Columns `from..to` of a line, counted from 0, as far as it goes.
 pub fn columns_of(line: &[u8], from: usize, to: usize) -> &[u8]
     requires { ⌜ from ≤ to ⌝ }
