@@ -16,14 +16,3 @@ one-false (b ∷ bs) (suc k) e = go b (one-false bs k e)
     go : (b : Bool) → false ≡ allOf bs → false ≡ (b && allOf bs)
     go true f = f
     go false f = refl
-
--- where the others hold, one decides
-pub last-decides : (b : Bool) → b ≡ allOf (true ∷ true ∷ true ∷ true ∷ b ∷ [])
-unfolding allOf
-last-decides true = refl
-last-decides false = refl
-
-pub third-decides : (b : Bool) → b ≡ allOf (true ∷ true ∷ b ∷ true ∷ true ∷ [])
-unfolding allOf
-third-decides true = refl
-third-decides false = refl
