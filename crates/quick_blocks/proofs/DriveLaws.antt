@@ -23,7 +23,8 @@ use Rattle.block_rows.proofs.RowLaws.{block-row-length}
 use Rattle.block_rows.proofs.WriteLaws.{putRows}
 use Rattle.quick_blocks.specs.declared.Ridden.{Ridden}
 use Rattle.quick_blocks.specs.declared.Ridden.the-variants.{Lines, Stuck}
-use Rattle.quick_blocks.specs.Steps.{w, Stepped, beyond, Drivable, LinesThrough, Drove}
+use Rattle.quick_steps.specs.Steps.{w, Stepped}
+use Rattle.quick_blocks.specs.Drive.{beyond, Drivable, LinesThrough, Drove}
 use Rattle.quick_blocks.proofs.PutLaws.{take-fewer, kept-before, kept-behind}
 
 -- where the text goes on there is a line

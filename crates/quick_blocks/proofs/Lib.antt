@@ -1,4 +1,3 @@
-pub mod LineLaws
 pub mod PutLaws
 pub mod DriveLaws
 pub mod WholeLaws

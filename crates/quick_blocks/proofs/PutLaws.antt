@@ -13,7 +13,7 @@ use Rattle.tables.proofs.Each.{Each}
 use Rattle.tables.proofs.Rows.{Used}
 use Rattle.tables.proofs.Put.{length-put, put-before, put-behind, put-row, put-other}
 use Rattle.block_rows.proofs.WriteLaws.{putRows}
-use Rattle.quick_blocks.specs.Steps.{w}
+use Rattle.quick_steps.specs.Steps.{w}
 
 -- fewer words of two tables that begin alike, and of two that end alike
 pub take-fewer : (a m : ℕ) (xs ys : List ℕ) → a ≤ m → take m xs ≡ take m ys → take a xs ≡ take a ys

@@ -34,7 +34,8 @@ use Rattle.quick_blocks.specs.declared.Ridden.{Ridden}
 use Rattle.quick_blocks.specs.declared.Ridden.the-variants.{Lines}
 use Rattle.quick_blocks.specs.declared.Quickly.{Quickly}
 use Rattle.quick_blocks.specs.declared.Quickly.the-variants.{Put, Left}
-use Rattle.quick_blocks.specs.Steps.{w, beyond, Drivable, Drove, LinesThrough}
+use Rattle.quick_steps.specs.Steps.{w}
+use Rattle.quick_blocks.specs.Drive.{beyond, Drivable, Drove, LinesThrough}
 use Rattle.quick_blocks.specs.Whole.{WholeSeen, BlockDone, QuickPut}
 use Rattle.quick_blocks.proofs.PutLaws.{rows-back}
 

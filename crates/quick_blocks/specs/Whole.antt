@@ -17,7 +17,7 @@ use Rattle.blocks.specs.Whole.{BlockChecked}
 use Rattle.blocks.specs.declared.Checked.the-variants.{Whole}
 use Rattle.quick_blocks.specs.declared.Quickly.{Quickly}
 use Rattle.quick_blocks.specs.declared.Quickly.the-variants.{Put}
-use Rattle.quick_blocks.specs.Steps.{w}
+use Rattle.quick_steps.specs.Steps.{w}
 
 -- rows that are a block's, of so many lines and stops as was thought
 pub record WholeSeen (t : List ℕ) (row m : ℕ) (st : InBlock) (n k : ℕ) : Type 0 where

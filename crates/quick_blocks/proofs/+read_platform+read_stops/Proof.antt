@@ -15,7 +15,7 @@ use Rattle.quick_blocks.proofs.+read_platform+read_stops.Lts-read_platf
 use Rattle.quick_blocks.proofs.read_stops.Reads as read-stops
 use Rattle.quick_blocks.proofs.read_stops.Kinds as read-stops-kinds
 use Rattle.quick_blocks.proofs.+read_platform+read_stops.Lts-read_stops as read-stops-lts
-use Rattle.quick_blocks.proofs.put_line.Reads as put-line-reads
+use Rattle.quick_steps.proofs.put_line.Reads as put-line-reads
 use Rattle.quick_blocks.proofs.+read_platform+read_stops.{statement}
 use Rattle.quick_blocks.proofs.+read_platform+read_stops.Tie.{close}
 

@@ -1,10 +1,10 @@
--- `quick_blocks::tested_words` meets its contract: a row that passes with the number 0 passes with any. Assumes nothing.
+-- `quick_steps::tested_words` meets its contract: a row that passes with the number 0 passes with any. Assumes nothing.
 use mathlib.Core.Path.{sym, _∙_}
 use borrow.Author.Needs.{needs}
 use borrow.Author.Tests.{not-false}
-use Rattle.quick_blocks.proofs.LineLaws.{nothing, passing}
-use Rattle.quick_blocks.proofs.tested_words.Statement.{statement}
-use Rattle.quick_blocks.proofs.tested_words.Tie as tie
+use Rattle.quick_steps.proofs.LineLaws.{nothing, passing}
+use Rattle.quick_steps.proofs.tested_words.Statement.{statement}
+use Rattle.quick_steps.proofs.tested_words.Tie as tie
 
 returns-4 : tie.Need-returns-4
 returns-4 c h =

@@ -1,10 +1,10 @@
--- `quick_blocks::put_line` meets its contract: a line that passes leads on, and its row is the block's. Assumes nothing.
+-- `quick_steps::put_line` meets its contract: a line that passes leads on, and its row is the block's. Assumes nothing.
 use mathlib.Core.Path.{refl, sym, _∙_}
 use native.Mathlib.Omega.{arith}
 use borrow.Author.Needs.{needs}
-use Rattle.quick_blocks.proofs.LineLaws.{positive, unsure, turned}
-use Rattle.quick_blocks.proofs.put_line.Statement.{statement}
-use Rattle.quick_blocks.proofs.put_line.Tie as tie
+use Rattle.quick_steps.proofs.LineLaws.{positive, unsure, turned}
+use Rattle.quick_steps.proofs.put_line.Statement.{statement}
+use Rattle.quick_steps.proofs.put_line.Tie as tie
 
 add-next : tie.Need-add-next
 add-next c =

@@ -32,9 +32,9 @@ use Rattle.blocks.proofs.StepLaws.{keys-agree, row-passes, let-through}
 use Rattle.quick_lines.specs.Pictures.{columnsAt, lineHere}
 use Rattle.quick_records.specs.declared.Words.{Words}
 use Rattle.quick_records.specs.Told.{Seen}
-use Rattle.quick_blocks.specs.declared.LinePut.{LinePut}
-use Rattle.quick_blocks.specs.declared.LinePut.the-variants.{Next, Unsure}
-use Rattle.quick_blocks.specs.Steps.{w, Passing, Stepped, LineTurn}
+use Rattle.quick_steps.specs.declared.LinePut.{LinePut}
+use Rattle.quick_steps.specs.declared.LinePut.the-variants.{Next, Unsure}
+use Rattle.quick_steps.specs.Steps.{w, Passing, Stepped, LineTurn}
 
 any-fresh : (b : Bool) → cond b true true ≡ true
 any-fresh true = refl

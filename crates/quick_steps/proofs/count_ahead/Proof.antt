@@ -1,11 +1,11 @@
--- `quick_blocks::count_ahead` meets its contract: a line has a byte or more, and is a stop or none. Assumes nothing.
+-- `quick_steps::count_ahead` meets its contract: a line has a byte or more, and is a stop or none. Assumes nothing.
 use Prim.Native.Nat.{_-_}
 use native.Mathlib.Omega.{arith}
 use borrow.Author.Needs.{needs}
 use lib.ListN.{length}
-use Rattle.quick_blocks.proofs.LineLaws.{Guess}
-use Rattle.quick_blocks.proofs.count_ahead.Statement.{statement}
-use Rattle.quick_blocks.proofs.count_ahead.Tie as tie
+use Rattle.quick_steps.proofs.LineLaws.{Guess}
+use Rattle.quick_steps.proofs.count_ahead.Statement.{statement}
+use Rattle.quick_steps.proofs.count_ahead.Tie as tie
 
 abbrev Inv-loop : tie.InvT-loop
 Inv-loop block at₀ lines₀ stops₀ at lines stops = Guess at lines stops

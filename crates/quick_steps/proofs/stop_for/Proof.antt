@@ -1,9 +1,9 @@
--- `quick_blocks::stop_for` meets its contract. Assumes nothing.
+-- `quick_steps::stop_for` meets its contract. Assumes nothing.
 use native.Mathlib.Omega.{arith}
 use borrow.Author.Needs.{needs}
-use Rattle.quick_blocks.proofs.LineLaws.{is-one, is-none}
-use Rattle.quick_blocks.proofs.stop_for.Statement.{statement}
-use Rattle.quick_blocks.proofs.stop_for.Tie as tie
+use Rattle.quick_steps.proofs.LineLaws.{is-one, is-none}
+use Rattle.quick_steps.proofs.stop_for.Statement.{statement}
+use Rattle.quick_steps.proofs.stop_for.Tie as tie
 
 pub stop-for-spec : {M : Type 1} → statement M
 stop-for-spec =
