@@ -594,7 +594,7 @@ fn service_text(shown: &answers::Service, day: Option<u64>, tables: &Tables, col
     };
     let width =
         shown.stops.iter().map(|stop| name(stop).chars().count()).max().unwrap_or(0).max("station".len());
-    text += &format!("\n  stop  {:<width$}  {:<19}  {:<19}\n", "station", "arrives", "departs");
+    text += &format!("\n  stop  {:<width$}  {:<19}  departs\n", "station", "arrives");
     for stop in &shown.stops {
         let when = |minutes: Option<i64>| minutes.map_or(String::new(), time);
         let number = stop.stop.map_or(String::new(), |number| number.to_string());

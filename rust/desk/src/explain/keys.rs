@@ -25,7 +25,7 @@ fn unique(file: usize, letter: u8) -> &'static [Unique] {
         (TIMETBLS, b'#') => &[("service", &[(2, 9)], false)],
         (CHANGES | XCHANGES, b'#') => &[("station", &[(2, 8)], false)],
         (CHANGES, b'-') => &[("pair of services", &[(2, 18)], true)],
-        (XCHANGES, b'-') => &[("four keys with footnote", &[(2, 18), (24, 28)], true)],
+        (XCHANGES, b'-') => &[("set of four keys with footnote", &[(2, 18), (24, 28)], true)],
         _ => &[],
     }
 }
@@ -49,8 +49,8 @@ pub fn twice(case: &Case) -> Option<Finding> {
         let parts: Vec<String> = wanted.iter().map(|part| quoted(part)).collect();
         let found = format!("{what} {}, which {} has already", parts.join(" and "), case.label(first));
         let expected = match in_group {
-            true => format!("a {what} once under its station"),
-            false => format!("a {what} once in {}", NAMES[case.file]),
+            true => format!("each {what} once under a station"),
+            false => format!("each {what} once in {}", NAMES[case.file]),
         };
         let advice = "Which of the two lines counts? Ask the supplier; then take the other away.";
         Some(Finding::of(what, mark, found, expected).beside(case.show(first, Some(mark))).advising(advice))
@@ -96,7 +96,7 @@ pub fn missing(case: &Case) -> Option<Finding> {
 fn not_there(case: &Case, field: &Field, file: usize, key: &[u8]) -> Finding {
     let (_, from, to) = key_of(file);
     let name = NAMES[file];
-    let what = field.what;
+    let what = field.what.trim_start_matches("from ").trim_start_matches("to ");
     let expected = format!("a {what} that {name} has in columns {from}-{to}");
     let near = near(case, file, key);
     let advice = match (&near, case.whose) {

@@ -4,7 +4,7 @@ use super::order::{due, names_of};
 use super::{quoted, Case, Finding, Shown};
 use crate::files::place::*;
 use crate::files::{lines, NAMES};
-use crate::records::{is_allowed, letters, Record, FIRST};
+use crate::records::{is_allowed, letters, Kind, Record, FIRST};
 
 pub fn find(case: &Case) -> Option<Finding> {
     line_end_lost(case)
@@ -42,7 +42,7 @@ fn unknown_letter(case: &Case) -> Option<Finding> {
         }
     };
     let may_follow = due(case.file, case.at.checked_sub(1).map(|at| &case.lines[..=at])?);
-    Some(Finding::at((1, 1), found, format!("{} here", names_of(case.file, may_follow))))
+    Some(Finding::at((1, 1), found, format!("here {}", names_of(case.file, may_follow))))
 }
 
 /// A byte in words.
@@ -76,7 +76,7 @@ fn length(case: &Case) -> Option<Finding> {
     );
     let finding = Finding::at(mark, found, expected);
     let ends_in_text =
-        case.record().and_then(|record| record.fields.last()).is_some_and(|field| field.from > 20);
+        case.record().and_then(|record| record.fields.last()).is_some_and(|field| field.kind == Kind::Text);
     let advice = match text.len() < length {
         true if ends_in_text => "Blanks at the end may have been cut off, as editors and mail programs do: fetch the file again in binary mode.",
         true if !case.line().ended => "The file is cut short: fetch it again, and compare its size with the supplier's.",

@@ -99,7 +99,7 @@ fn in_group(case: &Case) -> Finding {
         return Finding::at(
             (1, 1),
             format!("{what}, where it may not stand"),
-            format!("{} here", names_of(case.file, may_follow)),
+            format!("here {}", names_of(case.file, may_follow)),
         );
     }
     let end = case.text().len().max(1);
@@ -108,7 +108,7 @@ fn in_group(case: &Case) -> Finding {
         Some(_) => "the next `#`",
         None => "the end of the file",
     };
-    let expected = format!("{} behind it", names_of(case.file, still_due));
+    let expected = format!("behind it {}", names_of(case.file, still_due));
     let group = if case.file == TIMETBLS { "block" } else { "group" };
     let finding =
         Finding::at((1, end), format!("the last line of its {group}; behind it comes {behind}"), expected);

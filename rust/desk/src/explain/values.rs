@@ -29,7 +29,7 @@ fn value(field: &Field, text: &[u8]) -> Option<Finding> {
         Kind::NumberOrAnyIn(_) => {
             (!digits && !is_any(text)).then(|| format!("{} digits, or `*` and blanks", text.len()))
         }
-        _ if !digits => Some(format!("{}, digits alone", digits_of(text.len()))),
+        _ if !digits => Some(digits_of(text.len())),
         Kind::FromOne => (value == Some(0)).then(|| "a number of 1 or more".to_string()),
         Kind::Inland => value.filter(|&value| value > 1).map(|_| "0 or 1".to_string()),
         Kind::DayTurn => value
@@ -60,7 +60,7 @@ fn value(field: &Field, text: &[u8]) -> Option<Finding> {
 fn digits_of(width: usize) -> String {
     match width {
         1 => "one digit".into(),
-        _ => format!("{width} columns"),
+        _ => format!("{width} digits"),
     }
 }
 
