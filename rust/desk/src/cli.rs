@@ -7,13 +7,20 @@ use clap_complete::Shell;
 
 use crate::dates;
 
-/// Is that change safe to sell?
-///
-/// Checks timetable deliveries (IFF 4.2.4), keeps them in stores, answers the
-/// connections desk's questions from them, and amends single services. What is
-/// decided is decided by functions that are proved.
+const ABOUT: &str = "\
+Is that change safe to sell? Checks timetable deliveries (IFF 4.2.4), keeps them in stores,
+answers the connections desk's questions from them, and amends single services. What is
+decided is decided by functions that are proved.";
+
 #[derive(Parser)]
-#[command(name = "calyxcabin", version, after_help = STATUSES, subcommand_required = true, arg_required_else_help = true)]
+#[command(
+    name = "calyxcabin",
+    version,
+    about = ABOUT,
+    after_help = STATUSES,
+    subcommand_required = true,
+    arg_required_else_help = true
+)]
 pub struct Cli {
     /// Answer with one JSON object on one line.
     #[arg(long, global = true)]
@@ -71,6 +78,7 @@ Exit status: 0 Yes, 3 No, 4 Unsettled, 1 refused.
 Example:
   calyxcabin change night-boats 1 2 2015-12-14 3 1 2015-12-15")]
     Change {
+        /// The store's folder
         store: PathBuf,
         /// The service to leave
         #[arg(value_name = "SERVICE", value_parser = number)]
@@ -98,11 +106,15 @@ Leg 1 goes from stop 1 to stop 2. The status is 0 whether it runs or not.
 Example:
   calyxcabin runs night-boats 1 1 \"14 Dec 2015\"")]
     Runs {
+        /// The store's folder
         store: PathBuf,
+        /// Its number, behind `#` in TIMETBLS
         #[arg(value_parser = number)]
         service: u64,
+        /// From 1: leg 1 goes from stop 1 to stop 2
         #[arg(value_parser = number)]
         leg: u64,
+        /// That of its first departure
         #[arg(value_parser = dates::parse)]
         date: u64,
     },
@@ -113,11 +125,15 @@ It does not ask whether the service runs that day.
 Example:
   calyxcabin stop night-boats 1 2 14122015")]
     Stop {
+        /// The store's folder
         store: PathBuf,
+        /// Its number, behind `#` in TIMETBLS
         #[arg(value_parser = number)]
         service: u64,
+        /// From 1
         #[arg(value_parser = number)]
         stop: u64,
+        /// That of its first departure
         #[arg(value_parser = dates::parse)]
         date: u64,
     },
@@ -126,7 +142,9 @@ Example:
 Example:
   calyxcabin service night-boats 1 2015-12-14")]
     Service {
+        /// The store's folder
         store: PathBuf,
+        /// Its number, behind `#` in TIMETBLS
         #[arg(value_parser = number)]
         service: u64,
         /// Also tell whether it runs on this date
@@ -138,6 +156,7 @@ Example:
 Example:
   calyxcabin station night-boats HVH")]
     Station {
+        /// The store's folder
         store: PathBuf,
         /// Its short name in STATIONS
         code: String,
@@ -149,7 +168,9 @@ Into a file or a pipe they go byte by byte, with CR LF: to be edited, and amende
 Example:
   calyxcabin lines night-boats 1 > block")]
     Lines {
+        /// The store's folder
         store: PathBuf,
+        /// Its number, behind `#` in TIMETBLS
         #[arg(value_parser = number)]
         service: u64,
     },
@@ -162,7 +183,9 @@ Example:
   calyxcabin lines night-boats 1 > block      # edit it, then
   calyxcabin amend night-boats 1 block")]
     Amend {
+        /// The store's folder
         store: PathBuf,
+        /// Its number, behind `#` in TIMETBLS
         #[arg(value_parser = number)]
         service: u64,
         /// The file with the block
@@ -180,12 +203,18 @@ Questions, dates as DDMMYYYY:
 
 Example:
   echo 'change 1 2 14122015 3 1 15122015' | calyxcabin ask night-boats")]
-    Ask { store: PathBuf },
+    Ask {
+        /// The store's folder
+        store: PathBuf,
+    },
     /// Write a script that completes commands in a shell
     #[command(after_help = "\
 Example:
   calyxcabin completions bash > ~/.local/share/bash-completion/completions/calyxcabin")]
-    Completions { shell: Shell },
+    Completions {
+        /// The shell
+        shell: Shell,
+    },
 }
 
 fn number(text: &str) -> Result<u64, String> {

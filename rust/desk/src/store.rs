@@ -117,11 +117,23 @@ impl Store {
                 (store.tables, store.amendments, store.to_be_summed) =
                     (read.tables, read.amendments, Some(read.sum));
             }
-            Ok(_) => store.remake("The store's tables are those of another delivery", progress)?,
-            Err(why) => store.remake(&why, progress)?,
+            Ok(read) => {
+                store.amendments = read.amendments;
+                store.remake("The store's tables are those of another delivery", progress)?
+            }
+            Err(unread) => {
+                store.amendments = unread.amendments;
+                store.remake(&unread.why, progress)?
+            }
         }
         if journal::has(&store.folder(), store.amendments + 1) {
             store.catch_up(progress)?;
+        }
+        if store.amendments > 0 && !journal::has(&store.folder(), store.amendments) {
+            note(&format!(
+                "amendment {} is missing in the store's journal. The tables have it, and answers are right; but should they be damaged, they cannot be made again.",
+                store.amendments
+            ));
         }
         Ok(store)
     }
@@ -247,7 +259,7 @@ impl Store {
     /// By the law of amendments the tables are those of a load of the edited text.
     fn made_again(&self, progress: &Progress) -> Result<(Tables, u64), Trouble> {
         let mut texts = self.texts(progress)?;
-        let entries = journal::read(&self.folder())?;
+        let entries = journal::read(&self.folder(), self.amendments)?;
         let amendments = entries.len() as u64;
         texts.0[TIMETBLS] = journal::edited(&texts.0[TIMETBLS], &entries)?;
         let work = progress.step("checking");
@@ -267,7 +279,7 @@ impl Store {
 
     /// The lines of a service as they stand now.
     pub fn lines(&self, service: u64) -> Result<Result<Vec<u8>, Refusal>, Trouble> {
-        let block = journal::last_of(&self.folder(), service)?.unwrap_or_default();
+        let block = journal::last_of(&self.folder(), self.amendments, service)?.unwrap_or_default();
         let text = match block.is_empty() {
             true => self.text(TIMETBLS)?,
             false => Vec::new(),
@@ -301,7 +313,7 @@ impl Store {
 
     /// The TIMETBLS text with all amendments.
     pub fn timetable_now(&self) -> Result<Vec<u8>, Trouble> {
-        journal::edited(&self.text(TIMETBLS)?, &journal::read(&self.folder())?)
+        journal::edited(&self.text(TIMETBLS)?, &journal::read(&self.folder(), self.amendments)?)
     }
 
     pub fn rooms(&self) -> &[usize; FILES] {

@@ -47,7 +47,7 @@ pub fn write(path: &Path, number: u64, service: u64, block: &[u8]) -> Result<(),
 }
 
 /// The highest number in the journal.
-fn last(delivery: &Path) -> Result<u64, Trouble> {
+fn highest(delivery: &Path) -> Result<u64, Trouble> {
     let folder = folder(delivery);
     let entries = fs::read_dir(&folder).map_err(|error| Trouble::reading(&folder, &error))?;
     let number = |name: std::ffi::OsString| name.to_str()?.parse::<u64>().ok();
@@ -69,15 +69,15 @@ fn parse(bytes: &[u8], number: u64) -> Option<Entry> {
     (head(number, service, block) == line).then(|| Entry { service, block: block.to_vec() })
 }
 
-/// All amendments, in order; every one must be there.
-pub fn read(delivery: &Path) -> Result<Vec<Entry>, Trouble> {
-    (1..=last(delivery)?).map(|number| entry(delivery, number)).collect()
+/// All amendments, in order; every one must be there, as many as are known of.
+pub fn read(delivery: &Path, known: u64) -> Result<Vec<Entry>, Trouble> {
+    (1..=highest(delivery)?.max(known)).map(|number| entry(delivery, number)).collect()
 }
 
 /// The last block of a service. A damaged amendment before it does no harm; one
 /// behind it may be of this service.
-pub fn last_of(delivery: &Path, service: u64) -> Result<Option<Vec<u8>>, Trouble> {
-    for number in (1..=last(delivery)?).rev() {
+pub fn last_of(delivery: &Path, known: u64, service: u64) -> Result<Option<Vec<u8>>, Trouble> {
+    for number in (1..=highest(delivery)?.max(known)).rev() {
         let entry = entry(delivery, number).map_err(|trouble| {
             trouble.and("The service's lines cannot be told: they may have been amended there. The tables, and so all other answers, are right.")
         })?;

@@ -30,6 +30,22 @@ impl Read {
     }
 }
 
+/// Why tables could not be read, and how many amendments they are known to have.
+pub struct Unread {
+    pub why: String,
+    pub amendments: u64,
+}
+
+impl From<&str> for Unread {
+    fn from(why: &str) -> Unread {
+        Unread { why: why.into(), amendments: 0 }
+    }
+}
+
+const CUT_SHORT: &str = "The store's tables are cut short";
+const NOT_READ: &str = "The store's tables cannot be read";
+const DAMAGED: &str = "The head of the store's tables is damaged";
+
 pub fn path(folder: &Path) -> PathBuf {
     folder.join("tables")
 }
@@ -40,33 +56,29 @@ pub fn sum(tables: &Tables) -> u64 {
 }
 
 /// Reads the tables, or says in what way they are not there.
-pub fn read(folder: &Path) -> Result<Read, String> {
+pub fn read(folder: &Path) -> Result<Read, Unread> {
     let path = path(folder);
     let mut file = match opened(&path) {
         Ok(file) => file,
         Err(trouble) if trouble.gone => return Err("The store's tables are missing".into()),
-        Err(_) => return Err("The store's tables cannot be read".into()),
+        Err(_) => return Err(NOT_READ.into()),
     };
     let mut head = [0; HEAD];
-    read_words(&mut file, &mut head).map_err(|_| cut_short())?;
+    read_words(&mut file, &mut head).map_err(|_| Unread::from(CUT_SHORT))?;
     if head[0] != MARK || head[1] != VERSION || head[SUM_OF_HEAD] != sum_words(&head[..SUM_OF_HEAD]) {
-        return Err("The head of the store's tables is damaged".into());
+        return Err(DAMAGED.into());
     }
     let mut tables = Tables::default();
     for (place, table) in tables.0.iter_mut().enumerate() {
         let (length, used) = (head[3 + place] as usize, head[3 + FILES + place] as usize);
         *table = vec![0; length];
-        let words = table.get_mut(..used).ok_or("The head of the store's tables is damaged")?;
-        read_words(&mut file, words).map_err(|error| match error.kind() {
-            ErrorKind::UnexpectedEof => cut_short(),
-            _ => "The store's tables cannot be read".to_string(),
+        let words = table.get_mut(..used).ok_or(Unread::from(DAMAGED))?;
+        read_words(&mut file, words).map_err(|error| {
+            let why = if error.kind() == ErrorKind::UnexpectedEof { CUT_SHORT } else { NOT_READ };
+            Unread { why: why.into(), amendments: head[2] }
         })?;
     }
     Ok(Read { tables, amendments: head[2], sum: head[SUM] })
-}
-
-fn cut_short() -> String {
-    "The store's tables are cut short".into()
 }
 
 /// Writes the tables into a file and waits until the disk has it.

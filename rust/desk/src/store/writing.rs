@@ -135,7 +135,7 @@ pub(super) fn make_current(root: &Path, contents: &Contents) -> Result<(), Troub
 }
 
 fn amendments_in(root: &Path) -> String {
-    let count = contents::find(root).ok().and_then(|contents| journal::read(&contents.folder(root)).ok());
+    let count = contents::find(root).ok().and_then(|contents| journal::read(&contents.folder(root), 0).ok());
     match count.map_or(0, |entries| entries.len()) {
         0 => String::new(),
         1 => ", with 1 amendment".into(),
