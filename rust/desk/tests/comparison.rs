@@ -220,6 +220,8 @@ fn ask_answers_as_the_second_program_does() {
         line("lines {} 0", &[&store]);
         let said = line("station {} X", &[&store]);
         assert!(fs::read(&tables).unwrap() == before, "delivery {seed}: {said:#?}");
+        fs::remove_dir_all(&store).unwrap();
+        fs::remove_dir_all(&delivery).unwrap();
     }
     println!("{met:#?}");
     for kind in [

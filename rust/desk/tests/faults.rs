@@ -402,7 +402,7 @@ fn as_nobody(arguments: &[&str]) -> Option<Said> {
 #[test]
 fn rights_are_told() {
     let folder = PathBuf::from(format!("/tmp/calyxcabin-rights-{}", std::process::id()));
-    let _ = fs::remove_dir_all(&folder);
+    let _ = fs::remove_dir_all(&*folder);
     fs::create_dir_all(&folder).unwrap();
     copy(&example(), &folder.join("delivery"));
     let store = opened(&folder);
@@ -476,7 +476,7 @@ fn line_ends_lost_on_the_way() {
         (&["TIMETBLS"], "TIMETBLS, line 1"),
         (&["STATIONS", "XCHANGES"], "STATIONS, line 1"),
     ] {
-        let _ = fs::remove_dir_all(&folder);
+        let _ = fs::remove_dir_all(&*folder);
         copy(&example(), &folder);
         for name in files {
             let text = fs::read(folder.join(name)).unwrap();

@@ -16,14 +16,35 @@ pub fn example() -> PathBuf {
     Path::new(env!("CARGO_MANIFEST_DIR")).join("../../examples/delivery")
 }
 
-/// An empty folder of its own for a test, removed before and not after.
-pub fn folder(name: &str) -> PathBuf {
-    let folder = Path::new(env!("CARGO_TARGET_TMPDIR")).join(name);
-    // What a test before left may have no rights.
-    let _ = Command::new("chmod").args(["-R", "u+rwX"]).arg(&folder).stderr(Stdio::null()).status();
+/// An empty folder of its own for a test, in memory where there is room for it; removed when the test has passed.
+pub struct Folder(PathBuf);
+
+impl std::ops::Deref for Folder {
+    type Target = Path;
+
+    fn deref(&self) -> &Path {
+        &self.0
+    }
+}
+
+impl Drop for Folder {
+    fn drop(&mut self) {
+        if !std::thread::panicking() {
+            let _ = fs::remove_dir_all(&self.0);
+        }
+    }
+}
+
+pub fn folder(name: &str) -> Folder {
+    let memory = Path::new("/dev/shm");
+    let above = match fs::create_dir_all(memory.join("calyxcabin-tests")) {
+        Ok(()) => memory.join("calyxcabin-tests"),
+        Err(_) => Path::new(env!("CARGO_TARGET_TMPDIR")).to_path_buf(),
+    };
+    let folder = above.join(format!("{name} {}", std::process::id()));
     let _ = fs::remove_dir_all(&folder);
     fs::create_dir_all(&folder).expect("a folder for the test");
-    folder
+    Folder(folder)
 }
 
 /// What the program said: status, standard output, standard error.
