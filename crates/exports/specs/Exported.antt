@@ -7,6 +7,7 @@ use Rattle.iff.specs.Files.{PerFile, of}
 use Rattle.iff.specs.Lines.{lines}
 use Rattle.iff.specs.declared.File.{File}
 use Rattle.iff_rules.specs.Load.{loadAnswer, loadTable}
+use Rattle.iff_desk.specs.Amend.{amendAnswer, amendTimetbls}
 use Rattle.iff_desk.specs.Parts.{name, nameTest, isOneBlock, linesNow, linesNowTest}
 use Rattle.iff_desk.specs.declared.StopTime.{StopTime}
 use Rattle.iff_desk.specs.declared.Change.{Change}
@@ -17,6 +18,11 @@ use Rattle.parts.specs.Bounds.{partOf, Inside, namePart, textNow, partNow}
 pub record LoadedInNumbers (F : PerFile (List ℕ)) (R : PerFile ℕ) (words : List ℕ) (T : PerFile (List ℕ)) : Type 0 where
   pub answers : words ≡ answerWords (loadAnswer F R)
   pub leaves : (f : File) → of T f ≡ loadTable f F R
+
+-- AN AMENDMENT, as `amend::amend` promises it, with its answer in numbers
+pub record AmendedInNumbers (T : PerFile (List ℕ)) (s : ℕ) (b words t : List ℕ) : Type 0 where
+  pub answers : words ≡ answerWords (amendAnswer T s b)
+  pub leaves : t ≡ amendTimetbls T s b
 
 -- A NAME by its bounds in STATIONS, from a byte on and before another; both are 0 where there is none
 pub record NamedInNumbers (stations : List ℕ) (short : ℕ) (words : List ℕ) : Type 0 where

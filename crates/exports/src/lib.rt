@@ -8,7 +8,7 @@ ghost use Rattle.iff_desk.specs.Running.{runningDay};
 ghost use Rattle.iff_desk.specs.Stops.{stopTime};
 ghost use Rattle.iff_desk.specs.Changing.{change as changeTo};
 ghost use Rattle.answers.specs.Numbers.{soundNumber, runningWords};
-ghost use Rattle.exports.specs.Exported.{LoadedInNumbers, NamedInNumbers, LinesInNumbers, TimedInNumbers, ChangedInNumbers};
+ghost use Rattle.exports.specs.Exported.{LoadedInNumbers, AmendedInNumbers, NamedInNumbers, LinesInNumbers, TimedInNumbers, ChangedInNumbers};
 
 // A load: eleven files, eleven tables, and where the answer goes. It asks nothing of them.
 #[no_mangle]
@@ -75,6 +75,49 @@ pub extern "C" fn calyxcabin_load(
         t_xchanges,
     );
     *answer = answers::words_of(loaded);
+}
+
+// An amendment: eleven tables, of which TIMETBLS is written where it is accepted, a service and its block, and where the answer goes. It asks nothing
+// of them.
+#[no_mangle]
+pub extern "C" fn calyxcabin_amend(
+    delivery: &[u64],
+    company: &[u64],
+    country: &[u64],
+    trnsmode: &[u64],
+    timezone: &[u64],
+    stations: &[u64],
+    footnote: &[u64],
+    timetbls: &mut [u64],
+    changes: &[u64],
+    xfootnote: &[u64],
+    xchanges: &[u64],
+    service: u64,
+    block: &[u8],
+    answer: &mut [u64; 6],
+)
+    ensures { λ _. ⌜ AmendedInNumbers
+        (eleven (now (delivery .entry)) (now (company .entry)) (now (country .entry)) (now (trnsmode .entry)) (now (timezone .entry))
+        (now (stations .entry)) (now (footnote .entry)) (now (timetbls .entry)) (now (changes .entry)) (now (xfootnote .entry))
+        (now (xchanges .entry)))
+        service (now (block .entry)) (now (answer .exit)) (now (timetbls .exit)) ⌝ }
+{
+    let amended = amend::amend(
+        delivery,
+        company,
+        country,
+        trnsmode,
+        timezone,
+        stations,
+        footnote,
+        timetbls,
+        changes,
+        xfootnote,
+        xchanges,
+        service,
+        block,
+    );
+    *answer = answers::words_of(amended);
 }
 
 // A station's name: the file it stands in, its short name, and where the answer goes.

@@ -49,7 +49,7 @@ pub none-few : (form : Form) (f : File) (used : ℕ) → FewLines form f used fa
 none-few form f used = record { fit = λ q. absurd (false≢true q) }
 
 -- where they are few, those of a table fit
-count-between : (w : ℕ) (t : List ℕ) (i k : ℕ) → length (blockOfRows w t i k) ≡ k
+pub count-between : (w : ℕ) (t : List ℕ) (i k : ℕ) → length (blockOfRows w t i k) ≡ k
 unfolding blockOfRows
 count-between w t i zero = refl
 count-between w t i (suc k) = ap suc (count-between w t (suc i) k)

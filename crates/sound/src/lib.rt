@@ -394,7 +394,7 @@ fn are_right_behind(
 }
 
 // The form of a delivery, by its first line's row.
-fn form_of(first: &[u64]) -> Form
+pub fn form_of(first: &[u64]) -> Form
     requires { ⌜ 5 ≤ length (now first) ⌝ }
     ensures { λ r. ⌜ r ≡ formOf (now (first .entry)) ⌝ }
 {

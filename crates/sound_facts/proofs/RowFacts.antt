@@ -1,16 +1,17 @@
 -- What sound rows of one table are: no key twice, and numbers of as many digits as their columns. Assumes nothing.
-use Prim.Native.Nat.{ℕ, zero, suc, _-_, _^_, _≤_, _<_}
+use Prim.Native.Nat.{ℕ, zero, suc, _+_, _-_, _^_, _≤_, _<_}
 use mathlib.Core.Path.{_≡_, refl, ap, sym, _∙_}
 use mathlib.Core.List.{List, [], _∷_}
 use mathlib.Core.Bool.{Bool, true, false, _||_, cond, true≢false}
 use native.Mathlib.Omega.{arith}
 use borrow.Author.Tests.{eqb-true, ltb-true, leb-true}
-use lib.Dec.{eqb, leb}
+use lib.Dec.{eqb, leb, lit≤}
 use lib.ListN.{getD, drop}
 use lib.Seq.{getD-drop, drop-drop}
 use Rattle.iff.specs.Bytes.{hash, at, plus, dash}
-use Rattle.iff.specs.Lists.{Group, front, groups, members, all, allOf, kept}
-use Rattle.iff.specs.Columns.{Field, fieldsOf, recordFields, recordOf, periodFields, stationFields, exceptionFields}
+use Rattle.iff.specs.Lists.{Group, front, groups, members, all, allOf, kept, total}
+use Rattle.iff.specs.Files.{limit}
+use Rattle.iff.specs.Columns.{Field, pictureFrom, fieldsOf, recordFields, recordOf, periodFields, stationFields, exceptionFields}
 use Rattle.iff.specs.Days.{dayOf, dayIs, period, span, longest}
 use Rattle.iff.specs.Values.{wordAt, wordRight, wordsOf, wordsRight}
 use Rattle.iff.specs.Tables.{Row, tag, isHashRow, letterless, keyTag, keyWord, keysOf, keyed}
@@ -27,7 +28,7 @@ use Rattle.iff_rules.specs.Rows.{Context, firstOf}
 use Rattle.iff_rules.specs.Order.{mayFollow, mayEnd, groupStand, groupMoves, isPeriod}
 use Rattle.iff_rules.specs.Meaning.{firstMeaning}
 use Rattle.iff_laws.specs.TruthLaws.{both}
-use Rattle.iff_desk.specs.Sound.{passes, followedBy, distinct, shaped, empty}
+use Rattle.iff_desk.specs.Sound.{passes, followedBy, distinct, shaped, empty, rowSize, firstSize}
 use Rattle.iff_desk.specs.Sound.{soundFirst, soundPlainRow, soundPlain, soundGroupRow, soundGroup, soundGroups, soundLater, soundRows}
 use Rattle.iff_desk.specs.Store.{rowsOfGroups, groupOf, holds, periodOf}
 use Rattle.tables.proofs.Each.{Each}
@@ -89,6 +90,13 @@ pub keys-once : (c : Context) (d : Row) (f : File) (rs : List Row) → soundRows
 unfolding distinct passes kept
 keys-once c d f [] e = refl
 keys-once c d f (r ∷ rs) e = ap distinct (later-keys c d f r rs e) ∙ later-once c d f r rs e
+
+-- LENGTHS: the lines that the rows stand for are no longer than a file may be
+pub rows-short : (c : Context) (d : Row) (f : File) (rs : List Row) → soundRows c d f rs ≡ true
+    → firstSize + total (rowSize (c .form) f) (drop 1 rs) ≤ limit
+unfolding soundRows total pictureFrom
+rows-short c d f [] e = lit≤ tt
+rows-short c d f (r ∷ rs) e = leb-true _ _ (one-of _ e 3)
 
 -- DAYS
 no-span : (last : ℕ) → span 0 last ≡ 0

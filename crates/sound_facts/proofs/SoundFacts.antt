@@ -1,14 +1,15 @@
 -- What the soundness of eleven tables gives the questions. Assumes nothing.
-use Prim.Native.Nat.{ℕ, _-_, _≤_, _<_}
+use Prim.Native.Nat.{ℕ, _+_, _-_, _*_, _≤_, _<_}
 use mathlib.Core.Path.{_≡_, refl}
 use mathlib.Core.List.{List}
 use mathlib.Core.Bool.{Bool, true}
 use native.Mathlib.Omega.{arith}
-use lib.ListN.{getD, drop}
-use Rattle.iff.specs.Lists.{all}
+use borrow.Author.Tests.{ltb-true}
+use lib.ListN.{length, getD, drop}
+use Rattle.iff.specs.Lists.{all, total}
 use Rattle.iff.specs.Days.{span, longest}
-use Rattle.iff.specs.Files.{PerFile, of, inOrder}
-use Rattle.iff.specs.Tables.{rowsIn, keysOf}
+use Rattle.iff.specs.Files.{PerFile, of, inOrder, limit}
+use Rattle.iff.specs.Tables.{rowWidth, rowsIn, allZero, keysOf}
 use Rattle.iff.specs.Words.{firstDay, lastDay, hours, changeTime, exceptionTime}
 use Rattle.iff.specs.declared.RowFile.the-variants.{Company, Country, Trnsmode, Stations}
 use Rattle.iff.specs.declared.GroupFile.the-variants.{Timezone, Footnote, Changes, Xfootnote, Xchanges}
@@ -16,10 +17,10 @@ use Rattle.iff.specs.declared.File.{File}
 use Rattle.iff.specs.declared.File.the-variants.{Delivery, Rows, Groups, Timetbls}
 use Rattle.iff_rules.specs.Rows.{contextOf, firstOf}
 use Rattle.iff_laws.specs.TruthLaws.{both, says-all}
-use Rattle.iff_desk.specs.Sound.{rowsOfTables, soundRows, soundTable, sound, distinct}
+use Rattle.iff_desk.specs.Sound.{rowsOfTables, rowSize, firstSize, soundRows, soundTable, sound, distinct}
 use Rattle.iff_desk.specs.Store.{groupOf, stationRow, periodOf}
 use Rattle.tables.proofs.Each.{Each}
-use Rattle.sound_facts.proofs.RowFacts.{one-of, keys-once, days-few, station-times, period-few, exceptions-few}
+use Rattle.sound_facts.proofs.RowFacts.{one-of, keys-once, rows-short, days-few, station-times, period-few, exceptions-few}
 
 -- the files, by their place in the order of reading
 module _ (p : File → Bool) (e : all p inOrder ≡ true) where
@@ -61,6 +62,20 @@ module _ (T : PerFile (List ℕ)) (s : sound T ≡ true) where
   rows-sound : (f : File) → soundRows (contextOf (rowsOfTables T)) (firstOf (rowsOfTables T .delivery)) f (rowsIn f (of T f)) ≡ true
   unfolding soundTable
   rows-sound f = rw (← (rows-of T f)) (one-of _ (table-sound f) 1)
+
+  -- "the needed first lines are there": DELIVERY has a row
+  pub delivery-held : 0 < length (rowsIn Delivery (T .delivery))
+  unfolding soundTable
+  delivery-held = ltb-true _ _ (one-of _ (table-sound Delivery) 0)
+
+  -- "unused places are zero"
+  pub unused-zero : (f : File) → allZero (drop (length (rowsIn f (of T f)) * rowWidth f) (of T f)) ≡ true
+  unfolding soundTable
+  unused-zero f = rw (← (rows-of T f)) (one-of _ (table-sound f) 2)
+
+  -- "file length": the lines that a table's rows stand for
+  pub short : (f : File) → firstSize + total (rowSize (contextOf (rowsOfTables T) .form) f) (drop 1 (rowsIn f (of T f))) ≤ limit
+  short f = rows-short _ _ f _ (rows-sound f)
 
   -- "Unique": no two rows of a file name one key
   pub once : (f : File) → distinct (keysOf f (rowsIn f (of T f))) ≡ true

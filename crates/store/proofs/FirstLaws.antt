@@ -61,12 +61,12 @@ module _ (p : Row → Bool) where
       go false e = e ∙ moved (firstRow p (suc k) rs) refl
 
 -- the group that the first row with a key opens
-abbrev groupFrom : ℕ → List Row → RowOf → List Row
+abbrev pub groupFrom : ℕ → List Row → RowOf → List Row
 groupFrom k rs (RowIs i) = getD rs (i - k) [] ∷ front isHashRow (drop (suc (i - k)) rs)
 groupFrom k rs NoRow = []
 
 module _ (key : ℕ) where
-  abbrev opens : Row → Bool
+  abbrev pub opens : Row → Bool
   opens r = keyed hash 1 key r
 
   abbrev own : Group Row → Bool
@@ -75,7 +75,7 @@ module _ (key : ℕ) where
   abbrev groupsWith : Bool → Row → List Row → List (Group Row)
   groupsWith a r rs = cond a (record { top = r; rest = front isHashRow rs } ∷ groups isHashRow rs) (groups isHashRow rs)
 
-  group-first : (k : ℕ) (rs : List Row) → groupOf key rs ≡ groupFrom k rs (firstRow opens k rs)
+  pub group-first : (k : ℕ) (rs : List Row) → groupOf key rs ≡ groupFrom k rs (firstRow opens k rs)
   unfolding groupOf groups kept firstRow
   group-first k [] = refl
   group-first k (r ∷ rs) = go (isHashRow r) (eqb (named r) key) refl (group-first (suc k) rs)

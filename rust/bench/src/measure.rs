@@ -18,16 +18,41 @@ pub const HEADING: &str = "\
 /// The best of so many rounds is taken. In a round each program loads once, the
 /// tables are tested once and every change is asked once: so a processor that is
 /// now faster and now slower serves all alike.
-const ROUNDS: usize = 10;
+pub const ROUNDS: usize = 10;
 /// No further round is begun after this time.
-const ENOUGH: Duration = Duration::from_secs(15);
+pub const ENOUGH: Duration = Duration::from_secs(15);
 /// Changes asked, of which the mean is taken.
 const CHANGES: usize = 5;
 
 #[derive(Clone, Copy)]
 pub struct Plan {
+    pub table: Table,
     pub services: usize,
     pub order: Order,
+}
+
+/// What is measured.
+#[derive(Clone, Copy, PartialEq)]
+pub enum Table {
+    Loads,
+    Amendments,
+}
+
+impl Table {
+    pub const ALL: [Table; 2] = [Table::Loads, Table::Amendments];
+
+    pub fn named(name: &str) -> Option<Table> {
+        Table::ALL.into_iter().find(|table| table.to_string() == name)
+    }
+}
+
+impl fmt::Display for Table {
+    fn fmt(&self, out: &mut fmt::Formatter) -> fmt::Result {
+        out.write_str(match self {
+            Table::Loads => "loads",
+            Table::Amendments => "amendments",
+        })
+    }
 }
 
 /// The order of keys in every file.
@@ -74,7 +99,7 @@ pub fn row(plan: Plan) -> String {
     let figures =
         |time: Duration| format!("{:.3} | {:.1}", time.as_secs_f64(), megabytes / time.as_secs_f64());
     let ratio = |time: Duration| time.as_secs_f64() / second.as_secs_f64();
-    let change = changes.iter().sum::<Duration>().as_secs_f64() / changes.len() as f64;
+    let change = mean(&changes);
     format!(
         "| {} | {} | {megabytes:.1} | {lines} | {} | {} | {:.1} | {:.3} | {:.2} | {change:.3} | {:.2} |",
         plan.services,
@@ -149,8 +174,13 @@ fn comes_far(answer: &Answered) -> bool {
     matches!(source, Some(Source::Stations | Source::XChanges))
 }
 
+/// In seconds.
+pub fn mean(times: &[Duration]) -> f64 {
+    times.iter().sum::<Duration>().as_secs_f64() / times.len() as f64
+}
+
 /// Does the work, and keeps its time where it is the best so far.
-fn timed<T>(best: &mut Duration, work: impl FnOnce() -> T) -> T {
+pub fn timed<T>(best: &mut Duration, work: impl FnOnce() -> T) -> T {
     let start = Instant::now();
     let result = work();
     *best = start.elapsed().min(*best);

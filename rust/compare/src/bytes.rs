@@ -79,6 +79,6 @@ fn has_every_record(case: &Case) -> bool {
 }
 
 /// Whether a line after the first begins with the letter.
-fn begins(text: &[u8], letter: u8) -> bool {
+pub fn begins(text: &[u8], letter: u8) -> bool {
     text.windows(3).any(|bytes| bytes == [b'\r', b'\n', letter])
 }

@@ -6,12 +6,14 @@ use std::path::{Path, PathBuf};
 use std::{fs, io};
 
 use compare::answers::{asked_of_proved, asked_of_second, Answered, Examined, Lent};
-use compare::{by_proved, by_second, junk, Files, Lengths, Outcome, Tables};
-use deliveries::{folder, Question, Rng, Tally, NAMES};
+use compare::{
+    amended_by_proved, amended_by_second, by_proved, by_second, junk, Files, Lengths, Outcome, Tables,
+};
+use deliveries::{folder, Amendment, Question, Rng, Tally, NAMES};
 use proved::Answer;
 use second::encode::width;
 use second::sound::examine;
-use second::File;
+use second::{zeroes, File};
 
 /// So many differences are written out; the others are only counted.
 const WRITTEN: usize = 5;
@@ -46,10 +48,56 @@ impl Comparison {
         if proved != second {
             self.note(name, |path| {
                 folder::write(&files, path)?;
-                fs::write(path.join("answers.txt"), explained(&lengths, &proved, &second))
+                let told = explained(&lengths, ("proved", &proved), ("second", &second));
+                fs::write(path.join("answers.txt"), told)
             })?;
         }
         Ok(second.answer)
+    }
+
+    /// Has both programs amend tables, which the second has examined before, and
+    /// compares all they answer and leave. Answers what the second program comes
+    /// to.
+    pub fn compare_amendment(
+        &mut self,
+        name: &str,
+        tables: &Tables,
+        examined: &mut Examined,
+        amendment: &Amendment,
+    ) -> io::Result<Outcome> {
+        let Amendment { service, block } = amendment;
+        let second = amended_by_second(examined, tables, *service, block);
+        let proved = amended_by_proved(tables.clone(), *service, block);
+        if proved != second {
+            self.note(name, |path| {
+                let lengths = tables.each_ref().map(Vec::len);
+                let told = explained(&lengths, ("proved", &proved), ("second", &second));
+                fs::write(path.join("answers.txt"), format!("service {service}\n{told}"))?;
+                fs::write(path.join("block"), block)?;
+                fs::write(path.join("tables.txt"), written(tables))
+            })?;
+        }
+        Ok(second)
+    }
+
+    /// Holds what an amendment came to against the proved load of the edited
+    /// text into tables as long. A refused load leaves zeros, where a refused
+    /// amendment leaves what it found.
+    pub fn compare_edited(&mut self, name: &str, files: Files, amended: &Outcome) -> io::Result<()> {
+        let lengths = amended.tables.each_ref().map(Vec::len);
+        let loaded = by_proved(files, junk(&mut self.rng, &lengths));
+        let expected = match amended.answer.is_accepted() {
+            true => amended,
+            false => &Outcome { answer: amended.answer, tables: zeroes(&lengths) },
+        };
+        if loaded != *expected {
+            self.note(name, |path| {
+                folder::write(&files, path)?;
+                let told = explained(&lengths, ("loaded", &loaded), ("amended", expected));
+                fs::write(path.join("answers.txt"), told)
+            })?;
+        }
+        Ok(())
     }
 
     /// Asks both programs whether tables are sound. Answers what the second
@@ -129,13 +177,14 @@ fn written(tables: &Tables) -> String {
 }
 
 /// Both answers, the lengths of the tables, and where these first differ.
-fn explained(lengths: &Lengths, proved: &Outcome, second: &Outcome) -> String {
+fn explained(lengths: &Lengths, left: (&str, &Outcome), right: (&str, &Outcome)) -> String {
+    let ((left_name, left), (right_name, right)) = (left, right);
     let mut lines = vec![
-        format!("proved: {}", shown(proved.answer)),
-        format!("second: {}", shown(second.answer)),
+        format!("{left_name}: {}", shown(left.answer)),
+        format!("{right_name}: {}", shown(right.answer)),
         format!("words lent: {}", lengths.map(|length| length.to_string()).join(" ")),
     ];
-    for (name, (left, right)) in NAMES.iter().zip(proved.tables.iter().zip(&second.tables)) {
+    for (name, (left, right)) in NAMES.iter().zip(left.tables.iter().zip(&right.tables)) {
         let unlike = left.iter().zip(right).position(|(left, right)| left != right);
         lines.extend(unlike.map(|word| format!("{name}, word {word}: {} and {}", left[word], right[word])));
     }

@@ -1,5 +1,5 @@
-//! One delivery, or one question, through both programs: the proved crates and
-//! the second program.
+//! One delivery, one amendment or one question through both programs: the proved
+//! crates and the second program.
 
 pub mod answers;
 
@@ -8,7 +8,9 @@ use std::array;
 use deliveries::Rng;
 use proved::Answer;
 use second::encode::width;
-use second::{encode, rooms_of, zeroes, File};
+use second::{encode, rooms_of, zeroes, Fault, File, Refusal, Store};
+
+use crate::answers::Examined;
 
 /// How many files a delivery has.
 pub const FILES: usize = proved::FILES;
@@ -34,15 +36,38 @@ pub fn by_proved(files: Files, mut tables: Tables) -> Outcome {
 /// The second program's load, shown in tables of these lengths.
 pub fn by_second(files: Files, lengths: &Lengths) -> Outcome {
     match second::load(&files, &rooms_of(lengths)) {
-        Ok(store) => {
-            let second::Answer { days, services } = store.answer();
-            Outcome { answer: Answer::accepted(days, services), tables: encode(&store, lengths) }
-        }
-        Err(second::Refusal { number, file, ordinal, line }) => {
-            let answer = Answer::refused(u64::from(number), u64::from(file), ordinal, line);
-            Outcome { answer, tables: zeroes(lengths) }
-        }
+        Ok(store) => Outcome { answer: accepted(&store), tables: encode(&store, lengths) },
+        Err(refusal) => Outcome { answer: refused(refusal), tables: zeroes(lengths) },
     }
+}
+
+fn accepted(store: &Store) -> Answer {
+    let second::Answer { days, services } = store.answer();
+    Answer::accepted(days, services)
+}
+
+fn refused(Refusal { number, file, ordinal, line }: Refusal) -> Answer {
+    Answer::refused(u64::from(number), u64::from(file), ordinal, line)
+}
+
+/// The proved amendment, of tables as they stand.
+pub fn amended_by_proved(mut tables: Tables, service: u64, block: &[u8]) -> Outcome {
+    let lent = tables.each_mut().map(Vec::as_mut_slice);
+    let answer = proved::amend(lent.into(), service, block);
+    Outcome { answer, tables }
+}
+
+/// The second program's amendment, of what it has found of these tables before.
+pub fn amended_by_second(examined: &mut Examined, tables: &Tables, service: u64, block: &[u8]) -> Outcome {
+    let Ok(store) = examined else {
+        return Outcome { answer: refused(Fault::NotSound.nowhere()), tables: tables.clone() };
+    };
+    let answer = match second::amend(store, service, block) {
+        Ok(_) => accepted(store),
+        Err(refusal) => refused(refusal),
+    };
+    // A refused amendment, too, is shown by what the program is left with.
+    Outcome { answer, tables: encode(store, &tables.each_ref().map(Vec::len)) }
 }
 
 /// The lengths of tables with room for so many lines.

@@ -1,22 +1,26 @@
 //! Compares the proved crates with the second program: loads of thousands of
-//! deliveries, soundness of tables, and the desk's questions.
+//! deliveries, soundness of tables, the desk's questions, and amendments.
 //!
-//! usage: compare [--loads | --questions | --seed S --count N] [FOLDER]
+//! usage: compare [--loads | --questions | --amendments | --seed S --count N] [FOLDER]
 //!
 //! With a seed and a count: so many deliveries of every sort from that seed on,
-//! and questions. Else all loads, all questions, or both. Loads: deliveries of
-//! fixed seeds and of seeds that change with the date, every cause of every
-//! refusal, limits, large ones, bytes replaced, files of the largest length.
-//! Questions: of loaded and damaged tables and of texts, by such seeds; of
-//! tables with every word and row changed; of large ones. Where the two differ,
-//! FOLDER gets a folder with the files or tables and both answers in
-//! `answers.txt`.
+//! questions and amendments. Else all loads, all questions, all amendments, or
+//! everything. Loads: deliveries of fixed seeds and of seeds that change with the
+//! date, every cause of every refusal, limits, large ones, bytes replaced, files
+//! of the largest length. Questions: of loaded and damaged tables and of texts,
+//! by such seeds; of tables with every word and row changed; of large ones.
+//! Amendments: up to twelve in a row by such seeds, of damaged tables, by every
+//! cause in a block, of large tables, by blocks of the largest length; each also
+//! held against the proved load of the edited text. Where the two differ, FOLDER
+//! gets a folder with the files or tables and both answers in `answers.txt`.
 
+mod amended;
 mod asked;
 mod bytes;
 mod caused;
 mod comparison;
 mod lengths;
+mod long_blocks;
 mod made;
 mod options;
 
@@ -43,6 +47,13 @@ const FIXED_QUESTIONS: Range<u64> = 0..2_500;
 const QUESTIONS_OF_TODAY: u64 = 250;
 /// Every outcome of a question and of soundness is met so often.
 const OUTCOMES_OFTEN: usize = 50;
+/// The same of amendments, in sequences.
+const FIXED_AMENDMENTS: Range<u64> = 0..700;
+const AMENDMENTS_OF_TODAY: u64 = 70;
+/// Every outcome of an amendment and every way to make one is met so often.
+const AMENDMENTS_OFTEN: usize = 30;
+/// The same of blocks of the largest length, which take a second each.
+const LONG_BLOCKS_OFTEN: usize = 1;
 /// Of every hundred deliveries from the generator so many are accepted.
 const ACCEPTED_IN_100: usize = 30;
 
@@ -58,6 +69,7 @@ fn main() -> ExitCode {
         Part::Everything => compare_all(&mut comparison),
         Part::Loads => compare_loads(&mut comparison),
         Part::Questions => compare_questions(&mut comparison),
+        Part::Amendments => compare_amendments(&mut comparison),
         Part::Seeds(seeds) => compare_seeds(&mut comparison, seeds),
     };
     let mut complaints =
@@ -78,15 +90,21 @@ fn compare_seeds(comparison: &mut Comparison, seeds: Range<u64>) -> io::Result<V
     made::compare_mixed(comparison, &mut tally, seeds.clone())?;
     println!("{tally}");
     let mut desk = Desk::new(comparison);
-    desk.compare_seeds(seeds, if proved::EMULATED { SAMPLE } else { FULL })?;
+    desk.compare_seeds(seeds.clone(), if proved::EMULATED { SAMPLE } else { FULL })?;
     print_desk(&desk);
-    Ok(odd(&tally).into_iter().chain(odd_outcomes(&desk)).collect())
+    let mut complaints: Vec<String> = odd(&tally).into_iter().chain(odd_questions(&desk)).collect();
+    let mut desk = amended::Desk::new(comparison);
+    desk.compare_seeds(seeds, if proved::EMULATED { amended::SAMPLE } else { amended::FULL })?;
+    print_amendments(&desk);
+    complaints.extend(odd_amendments(desk));
+    Ok(complaints)
 }
 
 /// Runs all comparisons; answers what is wrong, in sentences.
 fn compare_all(comparison: &mut Comparison) -> io::Result<Vec<String>> {
     let mut complaints = compare_loads(comparison)?;
     complaints.extend(compare_questions(comparison)?);
+    complaints.extend(compare_amendments(comparison)?);
     Ok(complaints)
 }
 
@@ -121,8 +139,9 @@ fn compare_questions(comparison: &mut Comparison) -> io::Result<Vec<String>> {
     let start = Instant::now();
     let mut desk = Desk::new(comparison);
     desk.compare_seeds(FIXED_QUESTIONS, FULL)?;
-    let mut complaints: Vec<String> =
-        rare_outcomes(&desk.questions).chain(rare_outcomes(&desk.soundness)).collect();
+    let mut complaints: Vec<String> = rare_outcomes(&desk.questions, OUTCOMES_OFTEN)
+        .chain(rare_outcomes(&desk.soundness, OUTCOMES_OFTEN))
+        .collect();
     complaints.extend(desk.compare_limits()?);
     desk.compare_places()?;
     desk.compare_junk()?;
@@ -131,10 +150,55 @@ fn compare_questions(comparison: &mut Comparison) -> io::Result<Vec<String>> {
     let today = seeds_of_today(QUESTIONS_OF_TODAY);
     println!("Seeds of today: compare --seed {} --count {QUESTIONS_OF_TODAY}", today.start);
     desk.compare_seeds(today, FULL)?;
-    complaints.extend(odd_outcomes(&desk));
+    complaints.extend(odd_questions(&desk));
     print_desk(&desk);
     println!("Soundness and questions took {:.0?}.", start.elapsed());
     Ok(complaints)
+}
+
+fn compare_amendments(comparison: &mut Comparison) -> io::Result<Vec<String>> {
+    let start = Instant::now();
+    let mut desk = amended::Desk::new(comparison);
+    desk.compare_causes()?;
+    desk.compare_seeds(FIXED_AMENDMENTS, amended::FULL)?;
+    desk.compare_junk()?;
+    desk.compare_large()?;
+    desk.compare_long_blocks()?;
+    let mut complaints: Vec<String> = rare_outcomes(&desk.amendments, AMENDMENTS_OFTEN)
+        .chain(rare_outcomes(&desk.long_blocks, LONG_BLOCKS_OFTEN))
+        .chain(rare_ways(&desk))
+        .collect();
+
+    let today = seeds_of_today(AMENDMENTS_OF_TODAY);
+    println!("Seeds of today: compare --seed {} --count {AMENDMENTS_OF_TODAY}", today.start);
+    desk.compare_seeds(today, amended::FULL)?;
+    print_amendments(&desk);
+    complaints.extend(odd_amendments(desk));
+    println!("Amendments took {:.0?}.", start.elapsed());
+    Ok(complaints)
+}
+
+fn print_amendments(desk: &amended::Desk) {
+    println!("{} amendments:\n{}", desk.total(), desk.amendments);
+    println!("Ways to amend, by what they come to; 0 is what must be accepted:");
+    for ways in desk.ways.chunk_by(|(way, _), (next, _)| way.number == next.number) {
+        let counts: Vec<String> = ways.iter().map(|(way, count)| format!("{} {count}", way.what)).collect();
+        println!("{:>2} {}", ways[0].0.number, counts.join("; "));
+    }
+    if desk.long_blocks.total() > 0 {
+        println!("Blocks with which the text has the largest length:\n{}", desk.long_blocks);
+    }
+}
+
+fn rare_ways<'a>(desk: &'a amended::Desk) -> impl Iterator<Item = String> + 'a {
+    let rare = desk.ways.iter().filter(|(_, count)| *count < AMENDMENTS_OFTEN);
+    rare.map(|(way, count)| format!("An amendment by `{}` was made {count} times only.", way.what))
+}
+
+/// What is wrong with amendments by document 01.
+fn odd_amendments(desk: amended::Desk) -> Vec<String> {
+    let odd = odd_outcomes(&desk.amendments).chain(odd_outcomes(&desk.long_blocks));
+    odd.chain(desk.complaints.iter().cloned()).collect()
 }
 
 fn print_desk(desk: &Desk) {
@@ -146,15 +210,19 @@ fn print_desk(desk: &Desk) {
     );
 }
 
-fn rare_outcomes(outcomes: &Outcomes) -> impl Iterator<Item = String> + '_ {
-    let rare = outcomes.rarer_than(OUTCOMES_OFTEN).into_iter();
+fn rare_outcomes(outcomes: &Outcomes, often: usize) -> impl Iterator<Item = String> + '_ {
+    let rare = outcomes.rarer_than(often).into_iter();
     rare.map(|outcome| format!("`{outcome}` was met {} times only.", outcomes.of(outcome)))
 }
 
+fn odd_questions(desk: &Desk) -> Vec<String> {
+    odd_outcomes(&desk.questions).chain(odd_outcomes(&desk.soundness)).collect()
+}
+
 /// The outcomes that document 01 shuts out.
-fn odd_outcomes(desk: &Desk) -> Vec<String> {
-    let odd = desk.questions.unexpected().into_iter().chain(desk.soundness.unexpected());
-    odd.map(|outcome| format!("`{outcome}` cannot occur by document 01, and did.")).collect()
+fn odd_outcomes(outcomes: &Outcomes) -> impl Iterator<Item = String> + '_ {
+    let odd = outcomes.unexpected().into_iter();
+    odd.map(|outcome| format!("`{outcome}` cannot occur by document 01, and did."))
 }
 
 fn too_few_accepted(tally: &Tally) -> Option<String> {

@@ -15,17 +15,19 @@ pub enum Part {
     Everything,
     Loads,
     Questions,
-    /// Loads and questions of these seeds.
+    Amendments,
+    /// Loads, questions and amendments of these seeds.
     Seeds(Range<u64>),
 }
 
-pub const USAGE: &str = "usage: compare [--loads | --questions | --seed S --count N] [FOLDER]";
+pub const USAGE: &str = "usage: compare [--loads | --questions | --amendments | --seed S --count N] [FOLDER]";
 
 pub fn asked(arguments: &[String]) -> Option<Options> {
     let arguments: Vec<&str> = arguments.iter().map(String::as_str).collect();
     let (part, rest) = match arguments[..] {
         ["--loads", ref rest @ ..] => (Part::Loads, rest),
         ["--questions", ref rest @ ..] => (Part::Questions, rest),
+        ["--amendments", ref rest @ ..] => (Part::Amendments, rest),
         ["--seed", first, "--count", count, ref rest @ ..] => {
             let first: u64 = first.parse().ok()?;
             (Part::Seeds(first..first.checked_add(count.parse().ok()?)?), rest)

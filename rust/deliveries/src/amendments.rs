@@ -1,11 +1,15 @@
 //! Amendments for a delivery, and the delivery with its text edited by hand.
 
+use std::ops::Range;
+
 use crate::damage::damage_block;
 use crate::place::TIMETBLS;
 use crate::rng::Rng;
-use crate::text::{join, number, split, Lines};
+use crate::text::{number, Lines};
 use crate::world::{write_block, World};
 use crate::FILES;
+
+const CR_LF: &[u8] = b"\r\n";
 
 /// A service and the block that is to replace its lines.
 #[derive(Clone, Debug)]
@@ -63,15 +67,37 @@ pub fn as_no_block(rng: &mut Rng, amendment: &mut Amendment) {
     }
 }
 
+/// Test 11 as a search in the block's text.
+pub fn is_one_block(service: u64, block: &[u8]) -> bool {
+    let opening = format!("#{service:08}\r\n");
+    let begins_a_line = |letter: u8| block.windows(3).any(|bytes| bytes == [b'\r', b'\n', letter]);
+    opening.len() == 11
+        && block.starts_with(opening.as_bytes())
+        && block.ends_with(b"\r\n")
+        && !begins_a_line(b'#')
+        && !begins_a_line(b'@')
+}
+
+/// Where a service's lines stand in a TIMETBLS text: from its `#` line to the
+/// next line beginning `#`, or the end.
+pub fn lines_of(service: u64, timetbls: &[u8]) -> Option<Range<usize>> {
+    let place_of = |part: &[u8], from: usize| {
+        let found = timetbls[from..].windows(part.len()).position(|bytes| bytes == part);
+        found.map(|place| from + place + CR_LF.len())
+    };
+    let opening = [b"\r\n#", &number(service, 8)[..], CR_LF].concat();
+    let start = place_of(&opening, 0)?;
+    let next = place_of(b"\r\n#", start);
+    Some(start..next.unwrap_or(timetbls.len()))
+}
+
 /// The delivery in which the block stands in the place of the service's lines;
 /// none if the service is not held.
 pub fn edited(files: &[Vec<u8>; FILES], amendment: &Amendment) -> Option<[Vec<u8>; FILES]> {
-    let lines = split(&files[TIMETBLS]);
-    let opening = [b"#".to_vec(), number(amendment.service, 8)].concat();
-    let start = lines.iter().position(|line| *line == opening)?;
-    let length = lines[start + 1..].iter().take_while(|line| !line.starts_with(b"#")).count();
-    let (before, after) = (join(&lines[..start]), join(&lines[start + 1 + length..]));
+    let text = &files[TIMETBLS];
+    let held = lines_of(amendment.service, text)?;
+    let edited = [&text[..held.start], &amendment.block, &text[held.end..]].concat();
     let mut files = files.clone();
-    files[TIMETBLS] = [before, amendment.block.clone(), after].concat();
+    files[TIMETBLS] = edited;
     Some(files)
 }

@@ -18,6 +18,7 @@ mod shape;
 pub mod tables;
 pub mod tally;
 mod text;
+pub mod ways;
 mod world;
 
 pub use amendments::{amendment, edited, Amendment};
@@ -28,6 +29,7 @@ pub use questions::{lines_in, name_in, question, question_on_tables, Question};
 pub use rng::Rng;
 pub use shape::Shape;
 pub use tally::{can_occur, Outcomes, Tally};
+pub use ways::{Caused, Way, WAYS};
 pub use world::World;
 
 /// How many files a delivery has.

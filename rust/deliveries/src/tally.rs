@@ -169,6 +169,39 @@ pub const OF_SOUNDNESS: &[&str] = &[
     "unused places or derived words",
 ];
 
+/// What amendments can come to. No file is absent (3) and no first line touched
+/// (6), and a block under its own service's name repeats no key (8). Refusal 1
+/// takes blocks so long that they are counted apart.
+pub const OF_AMENDMENTS: &[&str] = &[
+    "accepted",
+    "accepted: more lines",
+    "accepted: fewer lines",
+    "accepted: as many lines",
+    "accepted: the very same lines",
+    "accepted: the first service",
+    "accepted: a service between",
+    "accepted: the last service",
+    "accepted: the only service",
+    "accepted: named in CHANGES",
+    "accepted: after three others",
+    "accepted: by freed room alone",
+    "accepted: the room is full",
+    "refused 2",
+    "refused 2: by one line",
+    "refused 4",
+    "refused 5",
+    "refused 7",
+    "refused 9",
+    "refused 10",
+    "refused 11",
+    "refused 12",
+    "refused 16",
+];
+
+/// What amendments by blocks near the largest length of a file come to.
+pub const OF_LONG_BLOCKS: &[&str] =
+    &["the largest length: refused 4", "a byte more: refused 1", "a byte more, not held: refused 12"];
+
 /// Counts of outcomes, of which some are expected.
 #[derive(Clone, Debug)]
 pub struct Outcomes {

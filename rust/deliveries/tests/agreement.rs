@@ -5,12 +5,13 @@ mod common;
 use std::collections::BTreeMap;
 use std::ops::RangeInclusive;
 
-use common::{is_one_block, outcome, place_of, Place};
-use deliveries::causes::ACCEPTED;
+use common::{outcome, place_of};
+use deliveries::amendments::is_one_block;
+use deliveries::causes::{Place, ACCEPTED};
 use deliveries::place::*;
 use deliveries::{
-    amendment, causes, edited, limit, limits, mixed, of_each_sort, sound, Amendment, Case, Limit, Rng, Tally,
-    World,
+    amendment, causes, edited, limit, limits, mixed, of_each_sort, sound, Amendment, Case, Caused, Limit,
+    Rng, Tally, World, WAYS,
 };
 use second::{amend, encode, open, rooms_of, Store};
 
@@ -175,7 +176,7 @@ fn mixed_deliveries_meet_every_refusal() {
 
 /// What an amendment must come to: 11, then 12, then what a load of the edited
 /// text comes to.
-fn expected(case: &Case, amendment: &Amendment) -> Result<(Store, Case), Place> {
+fn expected(case: &Case, amendment: &Amendment) -> Result<(Store, Case), common::Place> {
     if !is_one_block(amendment.service, &amendment.block) {
         return Err((11, 0, 0, 0));
     }
@@ -224,6 +225,50 @@ fn amendments_are_as_loads_of_the_edited_text() {
     println!("amendments by refusal, 0 for accepted: {numbers:?}");
     let met: Vec<u8> = numbers.into_keys().collect();
     assert_eq!(met, [0, 2, 4, 5, 7, 9, 10, 11, 12]);
+}
+
+/// The refusal of an amendment; none if it is accepted.
+fn amended(store: &mut Store, amendment: &Amendment) -> Option<common::Place> {
+    amend(store, amendment.service, &amendment.block).map_err(place_of).err()
+}
+
+/// Ways to amend: what each comes to is known from how it was made.
+#[test]
+fn every_way_to_amend_comes_to_its_number() {
+    for way in WAYS {
+        let mut rng = Rng::new(1);
+        let mut count = 0;
+        for seed in 0..120 {
+            let (world, case) = of_each_sort(seed);
+            let Some(amendment) = way.amendment(&mut rng, &world, &case) else { continue };
+            let mut store = outcome(&case).unwrap();
+            let number = amended(&mut store, &amendment).map_or(ACCEPTED, |(number, ..)| number);
+            assert_eq!(number, way.number, "{}, seed {seed}", way.what);
+            count += 1;
+        }
+        assert!(count >= 30, "{}: only {count} deliveries have a place for it", way.what);
+    }
+}
+
+/// Causes in blocks, as amendments of the delivery without them.
+#[test]
+fn every_cause_in_a_block_is_refused_at_its_place_in_an_amendment() {
+    let mut numbers: BTreeMap<u8, usize> = BTreeMap::new();
+    for cause in causes() {
+        for (seed, caused) in (0..60).filter_map(|seed| Some((seed, Caused::new(cause, seed)?))).take(3) {
+            let mut store = outcome(&caused.case).unwrap();
+            let Place { ordinal, line } = caused.place;
+            let expected = match caused.number {
+                ACCEPTED => None,
+                11 => Some((11, 0, 0, 0)),
+                number => Some((number, 8, ordinal, line)),
+            };
+            assert_eq!(amended(&mut store, &caused.amendment), expected, "{cause}, seed {seed}");
+            *numbers.entry(caused.number).or_default() += 1;
+        }
+    }
+    println!("causes as amendments, 0 for accepted: {numbers:?}");
+    assert_eq!(numbers.into_keys().collect::<Vec<_>>(), [0, 4, 5, 7, 9, 10, 11]);
 }
 
 #[test]

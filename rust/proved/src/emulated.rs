@@ -8,16 +8,20 @@
 //!
 //! For any other call follow: six numbers, those beyond the call's own zero;
 //! what seven words and four minutes hold, of which the call writes its own;
-//! the lengths in bytes of eleven slices, those beyond the call's own zero;
-//! then the slices. Answered: the seven words and the four minutes.
+//! the lengths in bytes of twelve slices, those beyond the call's own zero;
+//! then the slices. Answered: the seven words and the four minutes; after an
+//! amendment TIMETBLS too.
 
 use std::io::{self, BufWriter, Read, Write};
 use std::process::{Child, ChildStdin, ChildStdout, Command, Stdio};
 use std::sync::{Mutex, PoisonError};
 
-use crate::{Files, LentTables, Side, Tables, Words, FILES};
+use crate::{AmendedTables, Files, LentTables, Side, Tables, Words};
 
 const WORD: usize = size_of::<u64>();
+
+/// The most slices that a call is lent: eleven tables and a block.
+const SLICES: usize = 12;
 
 /// Bytes are gathered so far before they are sent; larger files go by themselves.
 const GATHERED: usize = 1 << 20;
@@ -40,6 +44,7 @@ enum Call {
     Change,
     Name,
     LinesNow,
+    Amend,
 }
 
 pub fn load(files: Files, tables: Tables, answer: &mut Words) {
@@ -78,6 +83,17 @@ pub fn name(stations: &[u8], short: u64, answer: &mut [u64; 3]) {
 
 pub fn lines_now(text: &[u8], block: &[u8], service: u64, answer: &mut [u64; 4]) {
     ask(Call::LinesNow, &[text, block], &[service], answer, &mut [])
+}
+
+pub fn amend(tables: AmendedTables, service: u64, block: &[u8], answer: &mut Words) {
+    let AmendedTables { before, timetbls, behind } = tables;
+    let all = before.iter().copied().chain([&*timetbls]).chain(behind);
+    let bytes: Vec<Vec<u8>> = all.map(bytes_of).collect();
+    let lent: Vec<&[u8]> = bytes.iter().map(Vec::as_slice).chain([block]).collect();
+    with_servant(|servant| {
+        servant.ask(Call::Amend, &lent, &[service], answer, &mut [])?;
+        servant.receive(timetbls)
+    })
 }
 
 /// Another process has no other way to the tables than a copy of them.
@@ -169,7 +185,7 @@ impl Servant {
         self.send(&padded::<6>(numbers.iter().copied()))?;
         self.send(&all_words)?;
         self.send(&all_minutes)?;
-        self.send(&padded::<FILES>(lent.iter().map(|slice| slice.len() as u64)))?;
+        self.send(&padded::<SLICES>(lent.iter().map(|slice| slice.len() as u64)))?;
         for slice in lent {
             self.questions.write_all(slice)?;
         }

@@ -1,4 +1,4 @@
-//! The proved load, soundness and questions, called from safe Rust.
+//! The proved load, amendments, soundness and questions, called from safe Rust.
 //!
 //! What they answer and leave is said by the contracts of the functions in
 //! `crates/exports`, which ask nothing of their callers: so the calls are safe
@@ -37,9 +37,9 @@ type LentTables<'a> = [&'a [u64]; FILES];
 /// and line, the days and the services.
 type Words = [u64; 6];
 
-/// What a load answers, all that its contract fixes: an accepted one has no
-/// refusal and no place, a refused one no days and no services. Files are
-/// numbered from 1, in reading order.
+/// What a load or an amendment answers, all that its contract fixes: an accepted
+/// one has no refusal and no place, a refused one no days and no services. Files
+/// are numbered from 1, in reading order.
 #[derive(Clone, Copy, Debug, PartialEq, Eq)]
 pub struct Answer {
     pub number: u64,
@@ -51,6 +51,10 @@ pub struct Answer {
 }
 
 impl Answer {
+    fn of([number, file, ordinal, line, days, services]: Words) -> Answer {
+        Answer { number, file, ordinal, line, days, services }
+    }
+
     pub fn accepted(days: u64, services: u64) -> Answer {
         Answer { number: 0, file: 0, ordinal: 0, line: 0, days, services }
     }
@@ -74,6 +78,36 @@ const UNANSWERED: u64 = u64::MAX;
 pub fn load(files: [&[u8]; FILES], tables: [&mut [u64]; FILES]) -> Answer {
     let mut words: Words = [UNANSWERED; 6];
     archive::load(files, tables, &mut words);
-    let [number, file, ordinal, line, days, services] = words;
-    Answer { number, file, ordinal, line, days, services }
+    Answer::of(words)
+}
+
+/// The tables of a store that is amended, lent where they stand: TIMETBLS to be
+/// written, the others to be read.
+pub struct AmendedTables<'t> {
+    /// DELIVERY to FOOTNOTE.
+    pub before: [&'t [u64]; 7],
+    pub timetbls: &'t mut [u64],
+    /// CHANGES to XCHANGES.
+    pub behind: [&'t [u64]; 3],
+}
+
+impl<'t> From<Tables<'t>> for AmendedTables<'t> {
+    /// Of eleven tables in reading order.
+    fn from(tables: Tables<'t>) -> AmendedTables<'t> {
+        let [delivery, company, country, trnsmode, timezone, stations, footnote, timetbls, changes, xfootnote, xchanges] =
+            tables;
+        AmendedTables {
+            before: [delivery, company, country, trnsmode, timezone, stations, footnote],
+            timetbls,
+            behind: [changes, xfootnote, xchanges],
+        }
+    }
+}
+
+/// Replaces the lines of a held service by a block's. A refused amendment leaves
+/// TIMETBLS as it was; 16 is for tables that are not sound.
+pub fn amend(tables: AmendedTables, service: u64, block: &[u8]) -> Answer {
+    let mut words: Words = [UNANSWERED; 6];
+    archive::amend(tables, service, block, &mut words);
+    Answer::of(words)
 }

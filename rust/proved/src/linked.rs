@@ -1,18 +1,21 @@
 //! The functions of the archive that this program is linked with.
 
-use crate::{Files, LentTables, Side, Tables, Words};
+use crate::{AmendedTables, Files, LentTables, Side, Tables, Words};
 
 /// Calls a function of the archive: what is only read comes first, then what is
-/// written, each slice as a pointer and a length, then all else.
+/// written, perhaps more of both, each slice as a pointer and a length, then all
+/// else.
 macro_rules! call {
-    ($function:ident(read $($read:ident)*, written $($written:ident)*, $($other:expr),*)) => {
+    ($function:ident($(read $($read:ident)*, written $($written:ident)*),+; $($other:expr),*)) => {
         // SAFETY: each pointer comes with the length of the slice that it was
         // taken from, the slices and arrays outlive the call, and what is
         // written is borrowed by the caller alone.
         unsafe {
             $function(
-                $($read.as_ptr(), $read.len(),)*
-                $($written.as_mut_ptr(), $written.len(),)*
+                $(
+                    $($read.as_ptr(), $read.len(),)*
+                    $($written.as_mut_ptr(), $written.len(),)*
+                )+
                 $($other),*
             )
         }
@@ -26,7 +29,7 @@ macro_rules! ask {
             $tables;
         call!($function(
             read delivery company country trnsmode timezone stations footnote timetbls changes xfootnote xchanges,
-            written,
+            written;
             $($other),*
         ))
     }};
@@ -40,7 +43,23 @@ pub fn load(files: Files, tables: Tables, answer: &mut Words) {
     call!(calyxcabin_load(
         read delivery company country trnsmode timezone stations footnote timetbls changes xfootnote xchanges,
         written t_delivery t_company t_country t_trnsmode t_timezone t_stations t_footnote t_timetbls t_changes
-            t_xfootnote t_xchanges,
+            t_xfootnote t_xchanges;
+        answer
+    ))
+}
+
+pub fn amend(tables: AmendedTables, service: u64, block: &[u8], answer: &mut Words) {
+    let AmendedTables { before, timetbls, behind } = tables;
+    let [delivery, company, country, trnsmode, timezone, stations, footnote] = before;
+    let [changes, xfootnote, xchanges] = behind;
+    call!(calyxcabin_amend(
+        read delivery company country trnsmode timezone stations footnote,
+        written timetbls,
+        read changes xfootnote xchanges,
+        written;
+        service,
+        block.as_ptr(),
+        block.len(),
         answer
     ))
 }
@@ -80,11 +99,11 @@ pub fn change(tables: LentTables, from: Side, to: Side, answer: &mut [u64; 7], g
 }
 
 pub fn name(stations: &[u8], short: u64, answer: &mut [u64; 3]) {
-    call!(calyxcabin_name(read stations, written, short, answer))
+    call!(calyxcabin_name(read stations, written; short, answer))
 }
 
 pub fn lines_now(text: &[u8], block: &[u8], service: u64, answer: &mut [u64; 4]) {
-    call!(calyxcabin_lines_now(read text block, written, service, answer))
+    call!(calyxcabin_lines_now(read text block, written; service, answer))
 }
 
 extern "C" {
@@ -133,6 +152,35 @@ extern "C" {
         t_xfootnote_len: usize,
         t_xchanges: *mut u64,
         t_xchanges_len: usize,
+        answer: *mut Words,
+    );
+
+    fn calyxcabin_amend(
+        delivery: *const u64,
+        delivery_len: usize,
+        company: *const u64,
+        company_len: usize,
+        country: *const u64,
+        country_len: usize,
+        trnsmode: *const u64,
+        trnsmode_len: usize,
+        timezone: *const u64,
+        timezone_len: usize,
+        stations: *const u64,
+        stations_len: usize,
+        footnote: *const u64,
+        footnote_len: usize,
+        timetbls: *mut u64,
+        timetbls_len: usize,
+        changes: *const u64,
+        changes_len: usize,
+        xfootnote: *const u64,
+        xfootnote_len: usize,
+        xchanges: *const u64,
+        xchanges_len: usize,
+        service: u64,
+        block: *const u8,
+        block_len: usize,
         answer: *mut Words,
     );
 

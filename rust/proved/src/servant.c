@@ -5,9 +5,11 @@ typedef unsigned char u8;
 typedef unsigned long u64;
 typedef int i32;
 
-enum { FILES = 11, ANSWER = 6, NUMBERS = 6, WORDS = 7, MINUTES = 4 };
+enum { FILES = 11, TIMETBLS = 7, ANSWER = 6, NUMBERS = 6, WORDS = 7, MINUTES = 4 };
+// Those of a call that is no load: eleven tables and a block.
+enum { BLOCK = 11, SLICES = 12 };
 // The calls by number, as `emulated.rs` has them.
-enum { LOAD, IS_SOUND, RUNNING_DAY, STOP_TIME, CHANGE, NAME, LINES_NOW };
+enum { LOAD, IS_SOUND, RUNNING_DAY, STOP_TIME, CHANGE, NAME, LINES_NOW, AMEND };
 enum { READ = 0, WRITE = 1, MMAP = 9, MUNMAP = 11, EXIT = 60, PRCTL = 157 };
 enum { SIGNAL_WHEN_THE_PARENT_DIES = 1, KILL = 9 };
 enum { READ_AND_WRITE = 3, PRIVATE_AND_OF_NO_FILE = 0x22 };
@@ -41,6 +43,11 @@ void calyxcabin_change(
 void calyxcabin_name(const u8 *, u64, u64, u64 *);
 
 void calyxcabin_lines_now(const u8 *, u64, const u8 *, u64, u64, u64 *);
+
+void calyxcabin_amend(
+    const u64 *, u64, const u64 *, u64, const u64 *, u64, const u64 *, u64, const u64 *, u64, const u64 *, u64,
+    const u64 *, u64, u64 *, u64, const u64 *, u64, const u64 *, u64, const u64 *, u64,
+    u64, const u8 *, u64, u64 *);
 
 static long system_call(long number, long a, long b, long c, long d, long e, long f)
 {
@@ -175,9 +182,9 @@ static void load_one(void)
 
 static void ask_one(u64 call)
 {
-    u64 q[NUMBERS], w[WORDS], minutes[MINUTES], bytes[FILES], n[FILES], all = 0;
-    const u64 *t[FILES];
-    const u8 *f[FILES];
+    u64 q[NUMBERS], w[WORDS], minutes[MINUTES], bytes[SLICES], n[SLICES], all = 0;
+    u64 *t[SLICES];
+    const u8 *f[SLICES];
     i32 m[MINUTES];
     take(q, sizeof q);
     take(w, sizeof w);
@@ -185,13 +192,13 @@ static void ask_one(u64 call)
     take(bytes, sizeof bytes);
     for (int k = 0; k < MINUTES; k++)
         m[k] = (i32)minutes[k];
-    for (int k = 0; k < FILES; k++)
+    for (int k = 0; k < SLICES; k++)
         all += bytes[k];
     u8 *slices = room_for(&lent, all + 1);
-    for (u64 k = 0, next = 0; k < FILES; next += bytes[k], k++) {
-        // Slices are tables or texts, never both: so tables are aligned.
+    for (u64 k = 0, next = 0; k < SLICES; next += bytes[k], k++) {
+        // No table comes after a text: so tables are aligned.
         f[k] = slices + next;
-        t[k] = (const u64 *)f[k];
+        t[k] = (u64 *)(slices + next);
         n[k] = bytes[k] / sizeof(u64);
     }
     take(slices, all);
@@ -216,6 +223,9 @@ static void ask_one(u64 call)
     case LINES_NOW:
         calyxcabin_lines_now(f[0], bytes[0], f[1], bytes[1], q[0], w);
         break;
+    case AMEND:
+        calyxcabin_amend(TABLES, q[0], f[BLOCK], bytes[BLOCK], w);
+        break;
     default:
         leave(3);
     }
@@ -223,6 +233,8 @@ static void ask_one(u64 call)
         minutes[k] = (u64)m[k];
     give(w, sizeof w);
     give(minutes, sizeof minutes);
+    if (call == AMEND)
+        give(t[TIMETBLS], bytes[TIMETBLS]);
 }
 
 _Noreturn void serve(void)

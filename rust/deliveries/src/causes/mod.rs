@@ -48,8 +48,8 @@ pub struct Place {
 }
 
 impl Place {
-    /// A file as a whole.
-    const FILE: Place = Place { ordinal: 0, line: 0 };
+    /// A file as a whole, or no place at all.
+    pub(crate) const FILE: Place = Place { ordinal: 0, line: 0 };
     const FIRST_LINE: Place = Place { ordinal: 0, line: 1 };
 
     /// Of a line by its place among all lines of the file, from 0.

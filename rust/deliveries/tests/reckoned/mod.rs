@@ -1,12 +1,11 @@
 //! The desk's questions answered another way: by reading the texts of an
 //! accepted delivery line by line, with no tables between.
 
+use deliveries::amendments::is_one_block;
 use deliveries::place::*;
 use deliveries::Case;
 use second::questions::{Change, Reason, Side, Source, StopTime, Times, Verdict};
 use second::{LocalMinutes, ReferenceMinutes};
-
-use crate::common::is_one_block;
 
 type Line<'a> = &'a [u8];
 
