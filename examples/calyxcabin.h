@@ -56,6 +56,13 @@ extern "C" {
  * answer[6]: the refusal's number, or 0; its file from 1, its block's ordinal, its line; days and services. Refused, all tables are zero. */
 void calyxcabin_load(CALYXCABIN_ELEVEN(const uint8_t), CALYXCABIN_ELEVEN(uint64_t), uint64_t *answer);
 
+/* Replaces the lines of a service by a block's: the tables DELIVERY to FOOTNOTE, TIMETBLS to be written, CHANGES to XCHANGES; the service; the
+ * block. answer[6] as of a load. Refused, TIMETBLS is as it was. calyxcabin_amend(CALYXCABIN_TABLES(tables), service, block, length, answer). */
+void calyxcabin_amend(
+    const uint64_t *, size_t, const uint64_t *, size_t, const uint64_t *, size_t, const uint64_t *, size_t, const uint64_t *, size_t,
+    const uint64_t *, size_t, const uint64_t *, size_t, uint64_t *timetbls, size_t, const uint64_t *, size_t, const uint64_t *, size_t,
+    const uint64_t *, size_t, uint64_t service, const uint8_t *block, size_t block_length, uint64_t *answer);
+
 /* 0 where the tables are sound, else 16. Every question tests it first. */
 uint64_t calyxcabin_is_sound(CALYXCABIN_ELEVEN(const uint64_t));
 

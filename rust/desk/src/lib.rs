@@ -3,7 +3,6 @@
 //! Everything that matters is decided by the proved functions of the archive
 //! (`proved`); what is here reads files, keeps them safe, and speaks.
 
-mod amending;
 mod answers;
 mod ask;
 mod cli;

@@ -290,11 +290,13 @@ impl Store {
     /// Amends the tables; an accepted amendment is kept, all or nothing. The
     /// lock is held, and the tables are those of the journal's end.
     pub fn amend(&mut self, service: u64, block: &[u8], progress: &Progress) -> Result<Answer, Trouble> {
-        self.sound(progress)?;
-        let answer = {
-            let _work = progress.step("checking");
-            self.amended(service, block)?
-        };
+        // Tables that are damaged are made again before anything is written to them.
+        self.ask(progress, |_| Ok(()))?.unwrap_or(());
+        let mut answer = self.amended(service, block, progress);
+        if answer.number == NOT_SOUND.0 {
+            self.remake("The store's tables are not sound", progress)?;
+            answer = self.amended(service, block, progress);
+        }
         if answer.is_accepted() {
             self.amendments += 1;
             let kept = self.keep_amendment(service, block, progress);
@@ -307,17 +309,9 @@ impl Store {
         Ok(answer)
     }
 
-    fn amended(&mut self, service: u64, block: &[u8]) -> Result<Answer, Trouble> {
-        crate::amending::amend(self, service, block)
-    }
-
-    /// The TIMETBLS text with all amendments.
-    pub fn timetable_now(&self) -> Result<Vec<u8>, Trouble> {
-        journal::edited(&self.text(TIMETBLS)?, &journal::read(&self.folder(), self.amendments)?)
-    }
-
-    pub fn rooms(&self) -> &[usize; FILES] {
-        &self.contents.rooms
+    fn amended(&mut self, service: u64, block: &[u8], progress: &Progress) -> Answer {
+        let _work = progress.step("checking");
+        proved::amend(self.tables.lent_mut().into(), service, block)
     }
 }
 
