@@ -38,7 +38,7 @@ pub fn ask(root: &Path, input: impl BufRead, mut output: impl Write) -> Result<(
         let line = line.map_err(|error| Trouble::new(format!("Standard input cannot be read: {error}.")))?;
         let line = line.strip_suffix(b"\r").unwrap_or(&line);
         let answer = match parse(line) {
-            Ok(question) => desk.answer(question).unwrap_or_else(|trouble| error(trouble.to_string())),
+            Ok(question) => desk.settled(&question).unwrap_or_else(|trouble| error(trouble.to_string())),
             Err(why) => error(why),
         };
         match writeln!(output, "{answer}").and_then(|()| output.flush()) {
@@ -115,8 +115,21 @@ struct Desk<'a> {
 }
 
 impl Desk<'_> {
-    fn answer(&mut self, question: Question) -> Result<String, Trouble> {
-        if let Question::Amend { service, file } = question {
+    /// An answer, from the new delivery where one is put into the store meanwhile.
+    fn settled(&mut self, question: &Question) -> Result<String, Trouble> {
+        const TRIES: usize = 5;
+        let mut answer = self.answer(question);
+        for _ in 1..TRIES {
+            match &answer {
+                Err(trouble) if trouble.gone && self.store.is_stale() => answer = self.answer(question),
+                _ => break,
+            }
+        }
+        answer
+    }
+
+    fn answer(&mut self, question: &Question) -> Result<String, Trouble> {
+        if let &Question::Amend { service, file } = question {
             return self.amend(service, file);
         }
         if self.store.is_stale() {
@@ -124,7 +137,7 @@ impl Desk<'_> {
             self.stations = None;
         }
         let hidden = Progress::hidden();
-        Ok(match question {
+        Ok(match *question {
             Question::Runs { service, leg, date } => {
                 let answer = self
                     .store
@@ -141,11 +154,11 @@ impl Desk<'_> {
                 let answer = self.store.ask(&hidden, |tables| proved::change(tables.lent(), from, to))?;
                 answered(answer.map(|change| Changed::of(&change)))
             }
-            Question::Name(code) => {
+            Question::Name(ref code) => {
                 if self.stations.is_none() {
                     self.stations = Some(self.store.text(STATIONS)?);
                 }
-                answered(name_of(self.stations.as_deref().unwrap_or_default(), &code))
+                answered(name_of(self.stations.as_deref().unwrap_or_default(), code))
             }
             Question::Lines(service) => {
                 answered(self.store.lines(service)?.map(|lines| TextLines { lines: latin(&lines) }))

@@ -62,7 +62,7 @@ Example:
         store: PathBuf,
         /// Room for so many lines in each table beyond the file's own, for
         /// amendments; else a tenth, at least 100
-        #[arg(long, value_name = "LINES", value_parser = clap::value_parser!(u32).range(0..=10_000_000))]
+        #[arg(long, value_name = "LINES", value_parser = clap::value_parser!(u32).range(0..=1_000_000))]
         spare: Option<u32>,
         /// Put the delivery into the place of the one that the store has, whose
         /// amendments go with it

@@ -3,7 +3,7 @@
 use std::io::{stdout, IsTerminal};
 use std::path::Path;
 
-use proved::{Change, Reason, Refusal, Running, Side, Source, Verdict};
+use proved::{Answer, Change, Reason, Refusal, Running, Side, Source, Verdict};
 
 use crate::answers::{self, json, Accepted, Changed, Name, Refused, Runs, TextLines};
 use crate::cli::Command;
@@ -11,14 +11,15 @@ use crate::dates::{self, clock, date, time};
 use crate::explain::questions::{packed, question, Asked};
 use crate::explain::{self, Explanation, Whose};
 use crate::files::place::*;
-use crate::files::{latin, lines, read_up_to, Delivery, FILES, LONGEST_FILE};
-use crate::loading::{load_texts, rooms_with, Spare};
-use crate::names::{Names, Operators};
+use crate::files::{latin, lines, read_up_to, Delivery, Texts, FILES, LONGEST_FILE};
+use crate::loading::{load_texts, rooms_with, Rooms, Spare};
+use crate::names::Names;
 use crate::progress::Progress;
 use crate::records::unpack;
+use crate::show;
 use crate::speech::{counted, refusal, Colour};
 use crate::store::{keep, Lock, Replacing, Store};
-use crate::tables::{stop_of, Tables};
+use crate::tables::Tables;
 use crate::trouble::Trouble;
 
 pub const DONE: u8 = 0;
@@ -44,6 +45,13 @@ impl Told {
     }
 }
 
+/// A delivery that was read, and what the load made of it.
+struct Loaded {
+    texts: Texts,
+    rooms: Rooms,
+    outcome: Result<(Answer, Tables), Explanation>,
+}
+
 /// What all commands need.
 pub struct Desk {
     pub progress: Progress,
@@ -51,7 +59,21 @@ pub struct Desk {
 }
 
 impl Desk {
+    /// Answers a command. Where another program puts a new delivery into the
+    /// store meanwhile, and takes the old one away, it is answered from the new.
     pub fn run(&self, command: &Command) -> Result<Told, Trouble> {
+        const TRIES: usize = 5;
+        let mut told = self.run_once(command);
+        for _ in 1..TRIES {
+            match &told {
+                Err(trouble) if trouble.gone => told = self.run_once(command),
+                _ => break,
+            }
+        }
+        told
+    }
+
+    fn run_once(&self, command: &Command) -> Result<Told, Trouble> {
         match command {
             Command::Check { delivery } => self.check(delivery),
             Command::Open { delivery, store, spare, replace } => {
@@ -84,10 +106,9 @@ impl Desk {
     }
 
     fn check(&self, folder: &Path) -> Result<Told, Trouble> {
-        let (_, loaded) = self.loaded(folder, Spare::Lines(0))?;
-        Ok(match loaded {
+        Ok(match self.loaded(folder, Spare::Lines(0))?.outcome {
             Err(told) => Told::refused(&told, self),
-            Ok((answer, tables, _)) => {
+            Ok((answer, tables)) => {
                 let validity = tables.validity();
                 let text = format!(
                     "{}: {}, {} to {}; {}.\n",
@@ -102,13 +123,7 @@ impl Desk {
         })
     }
 
-    #[allow(clippy::type_complete)]
-    fn loaded(
-        &self,
-        folder: &Path,
-        spare: Spare,
-    ) -> Result<(crate::files::Texts, Result<(proved::Answer, Tables, [usize; FILES]), Explanation>), Trouble>
-    {
+    fn loaded(&self, folder: &Path, spare: Spare) -> Result<Loaded, Trouble> {
         let texts = Delivery::find(folder)?.read(&self.progress)?;
         let rooms = {
             let _work = self.progress.step("counting");
@@ -118,16 +133,16 @@ impl Desk {
             let _work = self.progress.step("checking");
             load_texts(texts.slices(), &rooms)
         };
-        let loaded = match answer.is_accepted() {
-            true => Ok((answer, tables, rooms)),
+        let outcome = match answer.is_accepted() {
+            true => Ok((answer, tables)),
             false => Err(explain::load(texts.slices(), &answer, Whose::Delivery)),
         };
-        Ok((texts, loaded))
+        Ok(Loaded { texts, rooms, outcome })
     }
 
     fn open(&self, folder: &Path, root: &Path, spare: Spare, replacing: Replacing) -> Result<Told, Trouble> {
-        let (texts, loaded) = self.loaded(folder, spare)?;
-        let (answer, tables, rooms) = match loaded {
+        let Loaded { texts, rooms, outcome } = self.loaded(folder, spare)?;
+        let (answer, tables) = match outcome {
             Ok(loaded) => loaded,
             Err(told) => {
                 let mut told = Told::refused(&told, self);
@@ -174,10 +189,11 @@ impl Desk {
                 return Ok(self.question(&mut store, refusal, Asked::Leg { service, leg, date: day }))
             }
         };
-        let names = Names::of(&store);
+        let names = Names::of(&store)?;
+        let held = store.tables.service(service);
         let stop = |number: u64| {
-            let held = store.tables.service(service).and_then(|held| held.stop(number));
-            held.map_or(String::new(), |stop| names.both(stop.station))
+            let stop = held.and_then(|held| held.stop(number));
+            stop.map_or(String::new(), |stop| names.both(stop.station))
         };
         let does = match running {
             Running::Runs => self.colour.good("runs"),
@@ -202,7 +218,7 @@ impl Desk {
                 return Ok(self.question(&mut store, refusal, Asked::Stop { service, stop, date: day }))
             }
         };
-        let names = Names::of(&store);
+        let names = Names::of(&store)?;
         let stops = store.tables.service(service).map_or(0, |held| held.stop_count());
         let mut text = self.colour.strong(&format!(
             "{} (stop {stop} of {stops} of service {service:08})",
@@ -237,7 +253,7 @@ impl Desk {
             Ok(change) => change,
             Err(refusal) => return Ok(self.question(&mut store, refusal, Asked::Change { from, to })),
         };
-        let names = Names::of(&store);
+        let names = Names::of(&store)?;
         let at = |side: Side| store.tables.service(side.service).and_then(|held| held.stop(side.stop));
         let (Some(left), Some(boarded)) = (at(from), at(to)) else {
             return Err(Trouble::new("The store's tables do not show what was answered from them."));
@@ -302,8 +318,8 @@ impl Desk {
                 }
             }
         }
-        let shown = show_service(&store, service, &runs);
-        let text = service_text(&shown, day, &store.tables, self.colour);
+        let shown = show::service(&store, service, &runs)?;
+        let text = show::service_text(&shown, day, &store.tables, self.colour);
         Ok(Told::new(DONE, text, json(&shown)))
     }
 
@@ -313,7 +329,7 @@ impl Desk {
         let Some(station) = store.tables.station(packed(asked)) else {
             return Ok(self.question(&mut store, Refusal(17), Asked::Station(asked)));
         };
-        let names = Names::of(&store);
+        let names = Names::of(&store)?;
         let mut calls = Vec::new();
         for service in store.tables.services() {
             for (stop, number) in service.stops().zip(1..).filter(|(stop, _)| stop.station == station.code) {
@@ -334,7 +350,7 @@ impl Desk {
             zone: station.zone,
             calls,
         };
-        let text = station_text(&shown, &names.both(station.code), &store.tables, self.colour);
+        let text = show::station_text(&shown, &names.both(station.code), &store.tables, self.colour);
         Ok(Told::new(DONE, text, json(&shown)))
     }
 
@@ -359,7 +375,7 @@ impl Desk {
     fn amend(&self, root: &Path, service: u64, file: &Path) -> Result<Told, Trouble> {
         let block = read_block(file)?;
         // A folder that is no store is told before a lock is made in it.
-        drop(self.read(root)?);
+        Store::is_at(root)?;
         let _lock = Lock::taken(root)?;
         let mut store = Store::read_locked(root, &self.progress)?;
         let answer = store.amend(service, &block, &self.progress)?;
@@ -390,7 +406,7 @@ pub fn read_block(file: &Path) -> Result<Vec<u8>, Trouble> {
 }
 
 /// A refused amendment in words: the block stands as the only one in TIMETBLS.
-fn amendment_refused(store: &Store, service: u64, block: &[u8], answer: &proved::Answer) -> Explanation {
+fn amendment_refused(store: &Store, service: u64, block: &[u8], answer: &Answer) -> Explanation {
     match answer.number {
         11 => return explain::questions::not_one_block(service, block),
         12 => return question(&store.tables, 12, Asked::Service(service)),
@@ -402,7 +418,7 @@ fn amendment_refused(store: &Store, service: u64, block: &[u8], answer: &proved:
         _ => store.text(file).unwrap_or_default(),
     });
     texts[TIMETBLS] = [b"@\r\n", block].concat();
-    let alone = proved::Answer { ordinal: answer.ordinal.min(1), ..*answer };
+    let alone = Answer { ordinal: answer.ordinal.min(1), ..*answer };
     let mut told = explain::load(texts.each_ref().map(Vec::as_slice), &alone, Whose::Block);
     told.ordinal = answer.ordinal;
     told.file_line = None;
@@ -467,183 +483,6 @@ fn why(change: &Change, from: Side, to: Side, left: &str, boarded: &str) -> Stri
             Reason::GapTooShort => format!("the gap of {gap} is below the needed time of {needed}."),
         },
     }
-}
-
-fn show_service(store: &Store, number: u64, runs: &[bool]) -> answers::Service {
-    let (names, operators) = (Names::of(store), Operators::of(store));
-    let tables = &store.tables;
-    let validity = tables.validity();
-    let days = dates::count(validity.last)
-        .zip(dates::count(validity.first))
-        .map_or(0, |(last, first)| (last - first + 1) as usize);
-    let mut shown = answers::Service {
-        service: number,
-        numbers: Vec::new(),
-        validities: Vec::new(),
-        modes: Vec::new(),
-        attributes: Vec::new(),
-        stops: Vec::new(),
-    };
-    let mut stops = 0;
-    for row in tables.service(number).into_iter().flat_map(|service| service.rows()) {
-        match row[0] as u8 {
-            b'%' => shown.numbers.push(answers::Number {
-                company: row[1],
-                name: operators.company(row[1]),
-                number: row[2],
-                first: row[3],
-                last: row[4],
-            }),
-            b'-' => shown.validities.push(answers::Validity {
-                footnote: row[1],
-                first: row[2],
-                last: row[3],
-                days: tables.days_of(row[1], days).map_or(0, |days| days.iter().filter(|&&day| day).count()),
-                runs: runs.get(shown.validities.len()).copied(),
-            }),
-            b'&' => shown.modes.push(answers::Mode {
-                mode: latin(&unpack(row[1], 4)),
-                name: operators.mode(row[1]),
-                first: row[2],
-                last: row[3],
-            }),
-            b'*' => shown.attributes.push(answers::Attribute {
-                attribute: latin(&unpack(row[1], 4)),
-                first: row[2],
-                last: row[3],
-                footnote: row[4],
-            }),
-            b';' => shown.stops.push(answers::Called {
-                stop: None,
-                station: latin(&unpack(row[1], 7)),
-                name: names.station(row[1]),
-                arrival: None,
-                departure: None,
-                alight: false,
-                board: false,
-            }),
-            _ => {
-                let Some(stop) = stop_of(row) else { continue };
-                stops += 1;
-                shown.stops.push(answers::Called {
-                    stop: Some(stops),
-                    station: latin(&unpack(stop.station, 7)),
-                    name: names.station(stop.station),
-                    arrival: stop.arrival.map(clock),
-                    departure: stop.departure.map(clock),
-                    alight: stop.arrival.is_some(),
-                    board: stop.departure.is_some(),
-                });
-            }
-        }
-    }
-    shown
-}
-
-/// `all the way`, or from one stop to another.
-fn reach(first: u64, last: u64, stops: u64) -> String {
-    match (first, last) {
-        (1, last) if last == stops => String::new(),
-        _ => format!(", from stop {first} to {last}"),
-    }
-}
-
-fn service_text(shown: &answers::Service, day: Option<u64>, tables: &Tables, colour: Colour) -> String {
-    let stops = shown.stops.iter().filter(|stop| stop.stop.is_some()).count() as u64;
-    let mut text = colour.strong(&format!("Service {:08}, {}", shown.service, counted(stops, "stop"))) + "\n";
-    for number in &shown.numbers {
-        let name = number.name.as_deref().unwrap_or("");
-        text += &format!(
-            "  number {} of company {:03} {name}{}\n",
-            number.number,
-            number.company,
-            reach(number.first, number.last, stops)
-        );
-    }
-    for mode in &shown.modes {
-        let name = mode.name.as_deref().unwrap_or("");
-        text += &format!("  mode {} {name}{}\n", mode.mode.trim_end(), reach(mode.first, mode.last, stops));
-    }
-    for attribute in &shown.attributes {
-        text += &format!(
-            "  attribute {} from stop {} to {}, footnote {:05}\n",
-            attribute.attribute.trim_end(),
-            attribute.first,
-            attribute.last,
-            attribute.footnote
-        );
-    }
-    let validity = tables.validity();
-    for record in &shown.validities {
-        let on = match (record.runs, day) {
-            (Some(true), Some(day)) => format!("; {} on {}", colour.good("runs"), date(day)),
-            (Some(false), Some(day)) => format!("; {} on {}", colour.bad("does not run"), date(day)),
-            _ => String::new(),
-        };
-        text += &format!(
-            "  runs on {} from {} to {} (footnote {:05}){}{on}\n",
-            counted(record.days as u64, "day"),
-            date(validity.first),
-            date(validity.last),
-            record.footnote,
-            reach(record.first, record.last, stops),
-        );
-    }
-    let name = |stop: &answers::Called| {
-        format!("{} {}", stop.station.trim_end(), stop.name.as_deref().unwrap_or("")).trim_end().to_string()
-    };
-    let width =
-        shown.stops.iter().map(|stop| name(stop).chars().count()).max().unwrap_or(0).max("station".len());
-    text += &format!("\n  stop  {:<width$}  {:<19}  departs\n", "station", "arrives");
-    for stop in &shown.stops {
-        let when = |minutes: Option<i64>| minutes.map_or(String::new(), time);
-        let number = stop.stop.map_or(String::new(), |number| number.to_string());
-        let may = match (stop.stop, stop.alight, stop.board) {
-            (None, ..) => "passes without a stop",
-            (Some(1), ..) => "board",
-            (Some(number), ..) if number == stops => "alight",
-            (_, true, true) => "alight and board",
-            (_, true, false) => "alight only",
-            _ => "board only",
-        };
-        text += &format!(
-            "  {number:>4}  {:<width$}  {:<19}  {:<19}  {may}\n",
-            name(stop),
-            when(stop.arrival),
-            when(stop.departure)
-        );
-    }
-    text
-}
-
-fn station_text(shown: &answers::Station, both: &str, tables: &Tables, colour: Colour) -> String {
-    let mut text = colour.strong(both) + "\n";
-    text += &match (shown.flag, shown.change_time) {
-        (0, _) => "  changes      none are made here (flag 0), unless CHANGES has the pair of services\n".to_string(),
-        (flag, 99) => format!(
-            "  changes      are made here (flag {flag}); change time 99, the highest number its two columns can hold: the real time may be longer\n"
-        ),
-        (flag, change_time) => format!("  changes      are made here (flag {flag}); change time {}\n", dates::length(change_time as i64)),
-    };
-    text += &format!("  country      {}\n", shown.country.trim_end());
-    let periods: Vec<String> = tables
-        .periods(shown.zone)
-        .iter()
-        .map(|period| {
-            let sign = if period.ahead { '+' } else { '-' };
-            format!("{sign}{:02} h from {} to {}", period.hours, date(period.first), date(period.last))
-        })
-        .collect();
-    text += &format!("  time zone    {:04}: {}\n", shown.zone, periods.join(", "));
-    text += &format!("  calls        {}\n", shown.calls.len());
-    for call in &shown.calls {
-        let when =
-            |what: &str, minutes: Option<i64>| minutes.map(|minutes| format!("{what} {}", time(minutes)));
-        let said: Vec<String> =
-            [when("arrives", call.arrival), when("departs", call.departure)].into_iter().flatten().collect();
-        text += &format!("    service {:08}, stop {:>3}: {}\n", call.service, call.stop, said.join(", "));
-    }
-    text
 }
 
 /// The name of a station by code, for `ask`.

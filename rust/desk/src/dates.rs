@@ -51,8 +51,8 @@ fn worded(text: &str) -> Option<u64> {
 
 fn month_of(name: &str) -> Option<u64> {
     let name = name.to_ascii_lowercase();
-    let fits = |month: &&str| name.len() >= 3 && month.to_ascii_lowercase().starts_with(&name);
-    MONTHS.iter().position(|month| fits(&month)).map(|place| place as u64 + 1)
+    let fits = |month: &str| name.len() >= 3 && month.to_ascii_lowercase().starts_with(&name);
+    MONTHS.iter().position(|month| fits(month)).map(|place| place as u64 + 1)
 }
 
 fn written(day: u64, month: u64, year: u64) -> Option<u64> {

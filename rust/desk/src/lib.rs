@@ -15,6 +15,7 @@ mod loading;
 mod names;
 mod progress;
 mod records;
+mod show;
 mod speech;
 mod store;
 mod tables;

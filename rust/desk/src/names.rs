@@ -5,6 +5,7 @@ use crate::files::place::*;
 use crate::files::{latin, lines};
 use crate::records::{number, pack};
 use crate::store::{note, Store};
+use crate::trouble::Trouble;
 
 /// The texts that names are in. A file that is damaged gives none.
 pub struct Names {
@@ -12,8 +13,8 @@ pub struct Names {
 }
 
 impl Names {
-    pub fn of(store: &Store) -> Names {
-        Names { stations: text(store, STATIONS) }
+    pub fn of(store: &Store) -> Result<Names, Trouble> {
+        Ok(Names { stations: text(store, STATIONS)? })
     }
 
     /// The name of a station, without the blanks behind it.
@@ -31,8 +32,16 @@ impl Names {
     }
 }
 
-fn text(store: &Store, file: usize) -> Option<Vec<u8>> {
-    store.text(file).inspect_err(|trouble| note(&format!("names are left out: {trouble}"))).ok()
+fn text(store: &Store, file: usize) -> Result<Option<Vec<u8>>, Trouble> {
+    match store.text(file) {
+        Ok(text) => Ok(Some(text)),
+        // The store was replaced meanwhile, and is read again.
+        Err(trouble) if trouble.gone && store.is_stale() => Err(trouble),
+        Err(trouble) => {
+            note(&format!("names are left out: {trouble}"));
+            Ok(None)
+        }
+    }
 }
 
 /// The names of companies and modes.
@@ -42,8 +51,8 @@ pub struct Operators {
 }
 
 impl Operators {
-    pub fn of(store: &Store) -> Operators {
-        Operators { companies: text(store, COMPANY), modes: text(store, TRNSMODE) }
+    pub fn of(store: &Store) -> Result<Operators, Trouble> {
+        Ok(Operators { companies: text(store, COMPANY)?, modes: text(store, TRNSMODE)? })
     }
 
     pub fn company(&self, wanted: u64) -> Option<String> {

@@ -264,7 +264,7 @@ pub fn key_of(file: usize) -> (Option<u8>, usize, usize) {
 }
 
 /// The keys of a file, as its lines have them.
-pub fn keys<'a>(file: usize, text: &'a [u8]) -> impl Iterator<Item = &'a [u8]> {
+pub fn keys(file: usize, text: &[u8]) -> impl Iterator<Item = &[u8]> {
     let (letter, from, to) = key_of(file);
     crate::files::lines(text)
         .skip(1)

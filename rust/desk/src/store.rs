@@ -51,15 +51,26 @@ pub struct Store {
     pub locked: bool,
 }
 
-/// Tells whether another process has written the store since.
+/// Tells whether another process has written the store since: by `current` and
+/// by the tables. None where that is not known.
 #[derive(Clone, Copy, PartialEq)]
-struct Stamp([Option<(u64, i64, i64)>; 2]);
+struct Stamp {
+    current: Option<Seen>,
+    tables: Option<Seen>,
+}
+
+/// A file's number on the disk, and when it was written.
+type Seen = (u64, i64, i64);
+
+fn seen(path: &Path) -> Option<Seen> {
+    fs::metadata(path).ok().map(|data| (data.ino(), data.mtime(), data.mtime_nsec()))
+}
 
 impl Stamp {
+    const UNKNOWN: Stamp = Stamp { current: None, tables: None };
+
     fn of(root: &Path, tables: &Path) -> Stamp {
-        let of =
-            |path: &Path| fs::metadata(path).ok().map(|data| (data.ino(), data.mtime(), data.mtime_nsec()));
-        Stamp([of(&root.join(contents::NAME)), of(tables)])
+        Stamp { current: seen(&root.join(contents::NAME)), tables: seen(tables) }
     }
 }
 
@@ -86,18 +97,26 @@ impl Store {
         tried
     }
 
+    /// Whether there is a store, or what there is in its place.
+    pub fn is_at(root: &Path) -> Result<(), Trouble> {
+        contents::find(root).map(drop)
+    }
+
     /// Reads a store whose lock is held.
     pub fn read_locked(root: &Path, progress: &Progress) -> Result<Store, Trouble> {
         Store::read_once(root, progress, true)
     }
 
     fn read_once(root: &Path, progress: &Progress, locked: bool) -> Result<Store, Trouble> {
+        // As it was before it was read: what is written from here on is noticed.
+        let current = seen(&root.join(contents::NAME));
         let contents = contents::find(root)?;
         let folder = contents.folder(root);
+        let mut stamp = Stamp { current, tables: seen(&tables_file::path(&folder)) };
         if locked && !contents::is_written(root, &contents) {
             writing::make_current(root, &contents)?;
+            stamp = Stamp::of(root, &tables_file::path(&folder));
         }
-        let stamp = Stamp::of(root, &tables_file::path(&folder));
         let read = {
             let work = progress.bytes("reading", 0);
             work.at("tables");
@@ -143,6 +162,7 @@ impl Store {
     fn catch_up(&mut self, progress: &Progress) -> Result<(), Trouble> {
         if !self.locked {
             let waited = Lock::shared(&self.root);
+            let tables = seen(&tables_file::path(&self.folder()));
             let read = tables_file::read(&self.folder());
             drop(waited);
             if let Ok(read) = read {
@@ -151,7 +171,7 @@ impl Store {
                 {
                     (self.tables, self.amendments, self.to_be_summed) =
                         (read.tables, read.amendments, Some(read.sum));
-                    self.stamp = Stamp::of(&self.root, &tables_file::path(&self.folder()));
+                    self.stamp.tables = tables;
                     return Ok(());
                 }
             }
@@ -232,8 +252,11 @@ impl Store {
     /// Makes the tables again from the delivery and its journal.
     fn remake(&mut self, why: &str, progress: &Progress) -> Result<(), Trouble> {
         let made = self.made_again(progress);
-        let (tables, amendments) = made.map_err(|trouble| {
-            self.refused(&format!("{}, and they cannot be made again: {trouble}", why.to_lowercase_first()))
+        let (tables, amendments) = made.map_err(|trouble| match trouble.gone && self.is_stale() {
+            // A new delivery was put into the store meanwhile.
+            true => trouble,
+            false => self
+                .refused(&format!("{}, and they cannot be made again: {trouble}", why.to_lowercase_first())),
         })?;
         (self.tables, self.amendments, self.to_be_summed) = (tables, amendments, None);
         let saved = match self.locked {
@@ -302,7 +325,7 @@ impl Store {
             let kept = self.keep_amendment(service, block, progress);
             if kept.is_err() {
                 // These tables have what the store does not have.
-                self.stamp = Stamp([None; 2]);
+                self.stamp = Stamp::UNKNOWN;
             }
             kept?;
         }

@@ -194,6 +194,66 @@ fn amend_is_all_or_nothing() {
     println!("amend killed {KILLS} times within {longest:?}: {accepted_in_all} accepted and kept, {unanswered} kept and not answered");
 }
 
+/// While a store is replaced again and again, whoever reads it sees the one
+/// delivery or the other, whole.
+#[test]
+fn readers_never_see_half() {
+    use std::sync::atomic::{AtomicBool, Ordering};
+    let folder = folder("readers");
+    let other = folder.join("other");
+    copy(&example(), &other);
+    for (name, old, new) in [("STATIONS", "Harwich Int", "Harwich Par"), ("TIMETBLS", ",2200", ",2130")] {
+        let text = fs::read(other.join(name)).unwrap();
+        fs::write(other.join(name), with(&text, old, new)).unwrap();
+    }
+    let store = folder.join("store");
+    let questions = "stop 1 1 14122015\nlines 1\nname HAR\n";
+    let see = || {
+        let service = line("service {} 1 14122015", &[&store]);
+        assert_eq!((service.status, service.err.as_str()), (Some(0), ""), "{service:?}");
+        let lines = line("lines {} 1", &[&store]);
+        assert_eq!((lines.status, lines.err.as_str()), (Some(0), ""), "{lines:?}");
+        let asked = ask(&store, questions);
+        assert_eq!((asked.status, asked.err.as_str()), (Some(0), ""), "{asked:?}");
+        (service.out, lines.out, asked.out)
+    };
+    let deliveries = [example(), other];
+    let seen = deliveries.each_ref().map(|delivery| {
+        line("open {} {} --replace", &[delivery, &store]).is(0, "Accepted");
+        see()
+    });
+    let done = AtomicBool::new(false);
+    std::thread::scope(|scope| {
+        let readers: Vec<_> = (0..3)
+            .map(|_| {
+                scope.spawn(|| {
+                    let mut read = 0;
+                    while !done.load(Ordering::Relaxed) {
+                        let (service, lines, asked) = see();
+                        assert!(seen.iter().any(|seen| seen.0 == service), "{service}");
+                        assert!(seen.iter().any(|seen| seen.1 == lines), "{lines}");
+                        // The three answers may come from before and after.
+                        for (at, answer) in asked.lines().enumerate() {
+                            assert!(
+                                seen.iter().any(|seen| seen.2.lines().nth(at) == Some(answer)),
+                                "{answer}"
+                            );
+                        }
+                        read += 1;
+                    }
+                    read
+                })
+            })
+            .collect();
+        for round in 0..60 {
+            line("open {} {} --replace", &[&deliveries[round % 2], &store]).is(0, "Accepted");
+        }
+        done.store(true, Ordering::Relaxed);
+        let read: Vec<usize> = readers.into_iter().map(|reader| reader.join().expect("a reader")).collect();
+        println!("60 deliveries, read {read:?} times meanwhile");
+    });
+}
+
 fn limited(blocks: usize, arguments: &[&str]) -> Said {
     let script = format!("ulimit -f {blocks}; exec \"$0\" \"$@\"");
     Said::of(
@@ -382,8 +442,8 @@ fn damage_is_noticed() {
 fn as_nobody(arguments: &[&str]) -> Option<Said> {
     // The program's own folder may be closed to others.
     let program = Path::new("/tmp").join(format!("calyxcabin-{}", std::process::id()));
-    fs::copy(PROGRAM, &program).ok()?;
-    fs::set_permissions(&program, Permissions::from_mode(0o755)).ok()?;
+    // By another process: a file that this one has open cannot be run.
+    Command::new("install").args(["-m", "755", PROGRAM]).arg(&program).status().ok()?;
     let output = Command::new("setpriv")
         .args(["--reuid=65534", "--regid=65534", "--clear-groups"])
         .arg(&program)

@@ -67,15 +67,24 @@ impl Contents {
             // Writing to a String does not fail.
             let _ = writeln!(text, "{name} {length} {sum:016x} {room}");
         }
-        let sum = sum_bytes(text.as_bytes());
-        let _ = writeln!(text, "sum {sum:016x}");
-        text
+        let sum = sum_line(&text);
+        text + &sum
     }
 
-    fn parse(text: &str) -> Option<Contents> {
-        let body = &text[..text.rfind("sum ")?];
+    fn parse(text: &str) -> Result<Contents, Unread> {
+        let body = text.rfind("sum ").map(|end| &text[..end]).ok_or(Unread::Damaged)?;
+        if text[body.len()..] != sum_line(body) {
+            return Err(Unread::Damaged);
+        }
+        let (first, rest) = body.split_once('\n').ok_or(Unread::Damaged)?;
+        if first != FIRST_LINE {
+            return Err(Unread::OtherVersion);
+        }
+        Contents::of_lines(rest).ok_or(Unread::Damaged)
+    }
+
+    fn of_lines(body: &str) -> Option<Contents> {
         let mut lines = body.lines();
-        (lines.next()? == FIRST_LINE).then_some(())?;
         let number = lines.next()?.strip_prefix("delivery ")?.parse().ok()?;
         let (mut files, mut rooms) = ([(0, 0); FILES], [0; FILES]);
         for place in 0..FILES {
@@ -85,29 +94,36 @@ impl Contents {
             files[place] = (length.parse().ok()?, u64::from_str_radix(sum, 16).ok()?);
             rooms[place] = room.parse().ok()?;
         }
-        let contents = Contents { number, files, rooms };
-        (contents.written() == text).then_some(contents)
+        Some(Contents { number, files, rooms })
     }
+}
+
+/// The last line, which tells damage of those before.
+fn sum_line(body: &str) -> String {
+    format!("sum {:016x}\n", sum_bytes(body.as_bytes()))
+}
+
+/// Why what is written cannot be taken.
+enum Unread {
+    Damaged,
+    OtherVersion,
 }
 
 /// What the store has, by either of the two writings.
 pub fn find(root: &Path) -> Result<Contents, Trouble> {
     let path = root.join(NAME);
-    let read = read_small(&path);
-    if let Some(contents) = read.as_ref().ok().and_then(|text| Contents::parse(text)) {
-        return Ok(contents);
-    }
-    match read {
-        Ok(text) if text.starts_with("calyxcabin store ") && !text.starts_with(FIRST_LINE) => {
+    match read_small(&path).map(|text| Contents::parse(&text)) {
+        Ok(Ok(contents)) => return Ok(contents),
+        Ok(Err(Unread::OtherVersion)) => {
             return Err(Trouble::new(format!(
                 "{} is a store of another version of calyxcabin. Open the delivery again with this one.",
                 root.display()
             )));
         }
         Err(error) if error.kind() == ErrorKind::PermissionDenied => {
-            return Err(Trouble::reading(&path, &error))
+            return Err(Trouble::reading(&path, &error));
         }
-        _ => (),
+        Ok(Err(Unread::Damaged)) | Err(_) => (),
     }
     let copies = copies(root)?;
     match &copies[..] {
@@ -155,7 +171,7 @@ pub fn numbers(root: &Path) -> Result<Vec<u64>, Trouble> {
 fn copies(root: &Path) -> Result<Vec<Contents>, Trouble> {
     let copy = |number: u64| {
         let text = read_small(&root.join(number.to_string()).join(COPY)).ok()?;
-        Contents::parse(&text).filter(|contents| contents.number == number)
+        Contents::parse(&text).ok().filter(|contents| contents.number == number)
     };
     Ok(numbers(root)?.into_iter().filter_map(copy).collect())
 }

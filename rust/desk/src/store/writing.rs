@@ -5,7 +5,7 @@ use std::io::{self, stderr, IsTerminal};
 use std::path::{Path, PathBuf};
 
 use super::contents::{self, Contents};
-use super::{journal, note, tables_file, Stamp, Store};
+use super::{journal, note, seen, tables_file, Store};
 use crate::disk::{put, sync_folder, write_synced};
 use crate::files::{Texts, NAMES};
 use crate::loading::Rooms;
@@ -76,14 +76,16 @@ pub fn keep(
     replacing: Replacing,
     progress: &Progress,
 ) -> Result<(), Trouble> {
-    let new = !root.exists();
-    if new {
-        fs::create_dir(root).map_err(|error| Trouble::writing(root, &error))?;
-    }
+    let new = match fs::create_dir(root) {
+        Ok(()) => true,
+        Err(error) if error.kind() == io::ErrorKind::AlreadyExists => false,
+        Err(error) => return Err(Trouble::writing(root, &error)),
+    };
     let kept = keep_in(root, texts, rooms, tables, replacing, progress);
-    if kept.is_err() && new {
-        // What is there is this program's own.
-        let _ = fs::remove_dir_all(root);
+    // Another program may have made its store here meanwhile.
+    if kept.is_err() && new && !contents::is_there(root) {
+        let _ = fs::remove_file(root.join("lock"));
+        let _ = fs::remove_dir(root);
     }
     kept
 }
@@ -216,7 +218,7 @@ impl Store {
     fn take_new_tables(&mut self) -> Result<(), Trouble> {
         let to = tables_file::path(&self.folder());
         put(&self.new_tables(), &to).map_err(|error| Trouble::writing(&to, &error))?;
-        self.stamp = Stamp::of(&self.root, &to);
+        self.stamp.tables = seen(&to);
         Ok(())
     }
 
