@@ -118,7 +118,7 @@ impl Store {
             stamp = Stamp::of(root, &tables_file::path(&folder));
         }
         let read = {
-            let work = progress.bytes("reading", 0);
+            let work = progress.step("reading");
             work.at("tables");
             tables_file::read(&folder)
         };
@@ -261,11 +261,13 @@ impl Store {
         (self.tables, self.amendments, self.to_be_summed) = (tables, amendments, None);
         let saved = match self.locked {
             true => self.save_tables(progress),
-            false => match Lock::try_taken(&self.root) {
+            false => match Lock::if_free(&self.root) {
+                Ok(Some(_lock)) if !journal::has(&self.folder(), amendments + 1) => {
+                    self.save_tables(progress)
+                }
                 // Another process writes: it leaves tables that are right.
-                None => Ok(()),
-                Some(_lock) if journal::has(&self.folder(), amendments + 1) => Ok(()),
-                Some(_lock) => self.save_tables(progress),
+                Ok(_) => Ok(()),
+                Err(trouble) => Err(trouble),
             },
         };
         let kept = match saved {

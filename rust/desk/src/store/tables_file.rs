@@ -58,25 +58,27 @@ pub fn sum(tables: &Tables) -> u64 {
 /// Reads the tables, or says in what way they are not there.
 pub fn read(folder: &Path) -> Result<Read, Unread> {
     let path = path(folder);
-    let mut file = match opened(&path) {
+    let file = match opened(&path) {
         Ok(file) => file,
         Err(trouble) if trouble.gone => return Err("The store's tables are missing".into()),
         Err(_) => return Err(NOT_READ.into()),
     };
     let mut head = [0; HEAD];
-    read_words(&mut file, &mut head).map_err(|_| Unread::from(CUT_SHORT))?;
+    read_words(&file, 0, &mut head).map_err(|_| Unread::from(CUT_SHORT))?;
     if head[0] != MARK || head[1] != VERSION || head[SUM_OF_HEAD] != sum_words(&head[..SUM_OF_HEAD]) {
         return Err(DAMAGED.into());
     }
+    let mut from = size_of_val(&head) as u64;
     let mut tables = Tables::default();
     for (place, table) in tables.0.iter_mut().enumerate() {
         let (length, used) = (head[3 + place] as usize, head[3 + FILES + place] as usize);
         *table = vec![0; length];
         let words = table.get_mut(..used).ok_or(Unread::from(DAMAGED))?;
-        read_words(&mut file, words).map_err(|error| {
+        read_words(&file, from, words).map_err(|error| {
             let why = if error.kind() == ErrorKind::UnexpectedEof { CUT_SHORT } else { NOT_READ };
             Unread { why: why.into(), amendments: head[2] }
         })?;
+        from += (used * size_of::<u64>()) as u64;
     }
     Ok(Read { tables, amendments: head[2], sum: head[SUM] })
 }

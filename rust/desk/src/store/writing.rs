@@ -35,10 +35,14 @@ impl Lock {
     }
 
     /// The lock to write, if it is free.
-    pub fn try_taken(root: &Path) -> Option<Lock> {
-        let file = open_lock(&root.join("lock")).ok()?;
-        file.try_lock().ok()?;
-        Some(Lock(file))
+    pub fn if_free(root: &Path) -> Result<Option<Lock>, Trouble> {
+        let path = root.join("lock");
+        let file = open_lock(&path).map_err(|error| Trouble::writing(&path, &error))?;
+        match file.try_lock() {
+            Ok(()) => Ok(Some(Lock(file))),
+            Err(TryLockError::WouldBlock) => Ok(None),
+            Err(TryLockError::Error(error)) => Err(Trouble::writing(&path, &error)),
+        }
     }
 
     /// Waits until nobody writes.
