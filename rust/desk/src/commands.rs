@@ -413,11 +413,17 @@ fn amendment_refused(store: &Store, service: u64, block: &[u8], answer: &Answer)
         16 => return question(&store.tables, 16, Asked::Service(service)),
         _ => (),
     }
-    let mut texts: [Vec<u8>; FILES] = std::array::from_fn(|file| match file {
-        TIMETBLS => Vec::new(),
-        _ => store.text(file).unwrap_or_default(),
-    });
-    texts[TIMETBLS] = [b"@\r\n", block].concat();
+    let mut texts: [Vec<u8>; FILES] = Default::default();
+    for (file, text) in texts.iter_mut().enumerate() {
+        *text = match file {
+            TIMETBLS => [b"@\r\n", block].concat(),
+            _ => match store.text(file) {
+                Ok(text) => text,
+                // What it lacks would be told to be missing.
+                Err(trouble) => return explain::place_alone(answer, &trouble),
+            },
+        };
+    }
     let alone = Answer { ordinal: answer.ordinal.min(1), ..*answer };
     let mut told = explain::load(texts.each_ref().map(Vec::as_slice), &alone, Whose::Block);
     told.ordinal = answer.ordinal;

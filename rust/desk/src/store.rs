@@ -298,7 +298,7 @@ impl Store {
 
     fn refused(&self, why: &str) -> Trouble {
         Trouble::new(format!("The store {} cannot be used: {why}", self.root.display())).and(
-            "Open the delivery again into a new store, and amend it again; accepted amendments are in the store's journal folder.",
+            "Where that cannot be mended, open the delivery again into a new store, and amend it again; accepted amendments are in the store's journal folder.",
         )
     }
 

@@ -17,6 +17,11 @@ impl Trouble {
         Trouble { sentence: sentence.into(), gone: false }
     }
 
+    /// Something that should be there is not.
+    pub fn missing(sentence: impl Into<String>) -> Trouble {
+        Trouble { sentence: sentence.into(), gone: true }
+    }
+
     pub fn reading(path: &Path, error: &io::Error) -> Trouble {
         let why = match error.kind() {
             ErrorKind::NotFound => "it is not there. Is the name spelt right?".into(),
@@ -33,6 +38,7 @@ impl Trouble {
     pub fn writing(path: &Path, error: &io::Error) -> Trouble {
         let why = match error.kind() {
             ErrorKind::NotFound => "the folder it should stand in is not there. Make it first.".into(),
+            ErrorKind::NotADirectory => "what should be a folder above it is a file.".into(),
             ErrorKind::PermissionDenied => {
                 "you may not write there. Ask the folder's owner, or take another folder.".into()
             }

@@ -421,7 +421,7 @@ fn damage_is_noticed() {
     fs::write(store.join("1/journal/2"), b"").unwrap();
     line("runs {} 1 1 14122015", &[&store])
         .is(2, "they cannot be made again: Amendment 2")
-        .is(2, "Open the delivery again");
+        .is(2, "open the delivery again into a new store");
     // An amendment after damage to an older one is kept.
     let _ = fs::remove_dir_all(&store);
     copy(&whole, &store);

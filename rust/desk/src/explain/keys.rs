@@ -96,11 +96,12 @@ pub fn missing(case: &Case) -> Option<Finding> {
 fn not_there(case: &Case, field: &Field, file: usize, key: &[u8]) -> Finding {
     let (_, from, to) = key_of(file);
     let name = NAMES[file];
-    let what = field.what.trim_start_matches("from ").trim_start_matches("to ");
+    let what = field.what.trim_start_matches("from ").trim_start_matches("to ").trim_start_matches("passed ");
     let expected = format!("a {what} that {name} has in columns {from}-{to}");
     let near = near(case, file, key);
     let advice = match (&near, case.whose) {
-        (Some(near), _) => format!(
+        (Some(near), Whose::Block) => format!("{name} has {near}: is that meant?"),
+        (Some(near), Whose::Delivery) => format!(
             "{name} has {near}: is that meant? Correct the line, or have {what} {} added to {name}.",
             quoted(key)
         ),

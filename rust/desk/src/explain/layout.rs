@@ -25,7 +25,7 @@ fn line_end_lost(case: &Case) -> Option<Finding> {
     let expected = "CR LF (bytes 13 and 10) at the end of every line";
     Some(
         Finding::at((at + 1, at + 1), format!("a line that ends in {which}, in column {}", at + 1), expected)
-            .advising(advice),
+            .advising_of_delivery(case, advice),
     )
 }
 
@@ -82,7 +82,7 @@ fn length(case: &Case) -> Option<Finding> {
         true if !case.line().ended => "The file is cut short: fetch it again, and compare its size with the supplier's.",
         _ => return Some(finding),
     };
-    Some(finding.advising(advice))
+    Some(finding.advising_of_delivery(case, advice))
 }
 
 /// The columns between fields, which hold commas.
@@ -107,7 +107,10 @@ fn byte(case: &Case) -> Option<Finding> {
         0x80..=0x9f => "The text may have been turned into another alphabet on the way (IFF is Latin-1): fetch the file in binary mode.",
         _ => "The file may have been damaged on the way: fetch it again.",
     };
-    Some(Finding::at((at + 1, at + 1), found, "bytes 32 to 126 and 160 to 255 alone").advising(advice))
+    Some(
+        Finding::at((at + 1, at + 1), found, "bytes 32 to 126 and 160 to 255 alone")
+            .advising_of_delivery(case, advice),
+    )
 }
 
 fn unended(case: &Case) -> Option<Finding> {
@@ -122,7 +125,7 @@ fn unended(case: &Case) -> Option<Finding> {
         "the end of the file, without CR LF",
         "CR LF (bytes 13 and 10) at the end of every line",
     );
-    Some(finding.advising(advice))
+    Some(finding.advising_of_delivery(case, advice))
 }
 
 /// 6: where the line differs from DELIVERY's.
@@ -141,5 +144,5 @@ pub fn first_line(case: &Case) -> Option<Finding> {
     };
     let beside = Shown { label: "DELIVERY".into(), text: wanted.to_vec(), mark: Some(mark) };
     let advice = "The file belongs to another delivery than DELIVERY: take all files from one delivery.";
-    Some(finding.beside(beside).advising(advice))
+    Some(finding.beside(beside).advising_of_delivery(case, advice))
 }

@@ -14,6 +14,7 @@ use crate::dates;
 use crate::files::place::*;
 use crate::files::{lines, Line, FILES, LONGEST_FILE, NAMES};
 use crate::records::{number, record_of, Record, FIRST};
+use crate::trouble::Trouble;
 
 /// A refusal as a person reads it.
 #[derive(Debug, Default)]
@@ -57,7 +58,9 @@ impl Whose {
             Whose::Delivery => {
                 "Ask the supplier for a corrected delivery, or correct the line and check again."
             }
-            Whose::Block => "Correct the line in the block's file and amend again.",
+            Whose::Block => {
+                "Correct the block's file, with full lines (blanks included) that end in CR LF, and amend again."
+            }
         }
     }
 }
@@ -123,6 +126,14 @@ impl Finding {
         Finding { advice: Some(advice.into()), ..self }
     }
 
+    /// The same, for a delivery alone: a block's line is corrected.
+    fn advising_of_delivery(self, case: &Case, advice: impl Into<String>) -> Finding {
+        match case.whose {
+            Whose::Delivery => self.advising(advice),
+            Whose::Block => self,
+        }
+    }
+
     fn beside(mut self, shown: Shown) -> Finding {
         self.beside.push(shown);
         self
@@ -179,6 +190,19 @@ pub fn load(texts: [&[u8]; FILES], answer: &Answer, whose: Whose) -> Explanation
     };
     case.tell(&mut told, finding);
     told
+}
+
+/// Number and place alone, where the files are not there to say more.
+pub fn place_alone(answer: &Answer, why: &Trouble) -> Explanation {
+    Explanation {
+        number: answer.number,
+        meaning: meaning(answer.number),
+        file: NAMES.get((answer.file as usize).wrapping_sub(1)).copied().unwrap_or(""),
+        ordinal: answer.ordinal,
+        line: answer.line,
+        advice: format!("More cannot be told: {why}"),
+        ..Explanation::default()
+    }
 }
 
 fn whole_file(told: &mut Explanation, file: usize, text: &[u8]) {

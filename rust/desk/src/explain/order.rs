@@ -1,6 +1,6 @@
 //! 7: a record that may not stand where it does, or a group unfinished.
 
-use super::{Case, Finding};
+use super::{Case, Finding, Whose};
 use crate::files::place::*;
 use crate::files::{Line, NAMES};
 use crate::records::record_of;
@@ -106,6 +106,7 @@ fn in_group(case: &Case) -> Finding {
     let still_due = due(case.file, &case.lines[..=case.at]);
     let behind = match case.lines.get(case.at + 1) {
         Some(_) => "the next `#`",
+        None if case.whose == Whose::Block => "nothing more",
         None => "the end of the file",
     };
     let expected = format!("behind it {}", names_of(case.file, still_due));
@@ -114,7 +115,9 @@ fn in_group(case: &Case) -> Finding {
         Finding::at((1, end), format!("the last line of its {group}; behind it comes {behind}"), expected);
     match case.lines.get(case.at + 1) {
         Some(_) => finding,
-        None => finding
-            .advising("The file may be cut short: fetch it again, and compare its size with the supplier's."),
+        None => finding.advising_of_delivery(
+            case,
+            "The file may be cut short: fetch it again, and compare its size with the supplier's.",
+        ),
     }
 }

@@ -64,9 +64,13 @@ fn no_service(tables: &Tables, service: u64, side: &str) -> Explanation {
         }
         _ => "a service; the delivery has none".to_string(),
     };
+    let number = match service {
+        u64::MAX => "service of too many digits".to_string(),
+        _ => format!("service {service:08}"),
+    };
     told(
         12,
-        format!("service {service:08}{side}"),
+        format!("{number}{side}"),
         expected,
         "Is the number spelt right? It is the one behind `#` in TIMETBLS, not the train's number.".into(),
     )

@@ -51,7 +51,13 @@ impl Contents {
             return Ok(Vec::new());
         }
         let path = self.folder(root).join("delivery").join(NAMES[file]);
-        let text = fs::read(&path).map_err(|error| Trouble::reading(&path, &error))?;
+        let text = fs::read(&path).map_err(|error| match error.kind() {
+            ErrorKind::NotFound => Trouble::missing(format!(
+                "{} is missing. Put that file of the delivery there again.",
+                path.display()
+            )),
+            _ => Trouble::reading(&path, &error),
+        })?;
         if (text.len() as u64, sum_bytes(&text)) != (length, sum) {
             return Err(Trouble::new(format!(
                 "{} is damaged: it is not the file that was opened. Put that file of the delivery there again.",

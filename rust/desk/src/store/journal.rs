@@ -3,6 +3,7 @@
 
 use std::collections::BTreeMap;
 use std::fs;
+use std::io::ErrorKind;
 use std::path::{Path, PathBuf};
 
 use crate::disk::{sum_bytes, write_synced};
@@ -56,7 +57,12 @@ fn highest(delivery: &Path) -> Result<u64, Trouble> {
 
 fn entry(delivery: &Path, number: u64) -> Result<Entry, Trouble> {
     let path = path(delivery, number);
-    let bytes = fs::read(&path).map_err(|error| Trouble::reading(&path, &error))?;
+    let bytes = fs::read(&path).map_err(|error| match error.kind() {
+        ErrorKind::NotFound => {
+            Trouble::missing(format!("Amendment {number} is missing: {}.", path.display()))
+        }
+        _ => Trouble::reading(&path, &error),
+    })?;
     parse(&bytes, number)
         .ok_or_else(|| Trouble::new(format!("Amendment {number} in {} is damaged.", path.display())))
 }
