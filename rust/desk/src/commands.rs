@@ -457,7 +457,8 @@ fn why(change: &Change, from: Side, to: Side, left: &str, boarded: &str) -> Stri
         Verdict::Unsettled => {
             let columns = if change.source == Some(Source::XChanges) { "three" } else { "two" };
             format!(
-                "the needed time is {needed}, the highest number its {columns} columns can hold: the real time may be longer. Gap {gap}. Ask the supplier before selling."
+                "the needed time is {needed}, the highest number its {columns} columns can hold: the real time may \
+                 be longer. Gap {gap}. Ask the supplier before selling."
             )
         }
         Verdict::No(reason) => match reason {

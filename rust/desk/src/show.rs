@@ -162,11 +162,16 @@ pub fn service_text(shown: &answers::Service, day: Option<u64>, tables: &Tables,
 pub fn station_text(shown: &answers::Station, both: &str, tables: &Tables, colour: Colour) -> String {
     let mut text = colour.strong(both) + "\n";
     text += &match (shown.flag, shown.change_time) {
-        (0, _) => "  changes      none are made here (flag 0), unless CHANGES has the pair of services\n".to_string(),
+        (0, _) => "  changes      none are made here (flag 0), unless CHANGES has the pair of services\n"
+            .to_string(),
         (flag, 99) => format!(
-            "  changes      are made here (flag {flag}); change time 99, the highest number its two columns can hold: the real time may be longer\n"
+            "  changes      are made here (flag {flag}); change time 99, the highest number its two \
+             columns can hold: the real time may be longer\n"
         ),
-        (flag, change_time) => format!("  changes      are made here (flag {flag}); change time {}\n", dates::length(change_time as i64)),
+        (flag, change_time) => format!(
+            "  changes      are made here (flag {flag}); change time {}\n",
+            dates::length(change_time as i64)
+        ),
     };
     text += &format!("  country      {}\n", shown.country.trim_end());
     let periods: Vec<String> = tables

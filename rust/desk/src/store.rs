@@ -150,7 +150,8 @@ impl Store {
         }
         if store.amendments > 0 && !journal::has(&store.folder(), store.amendments) {
             note(&format!(
-                "amendment {} is missing in the store's journal. The tables have it, and answers are right; but should they be damaged, they cannot be made again.",
+                "amendment {} is missing in the store's journal. The tables have it, and answers are right; but \
+                 should they be damaged, they cannot be made again.",
                 store.amendments
             ));
         }
@@ -298,7 +299,8 @@ impl Store {
 
     fn refused(&self, why: &str) -> Trouble {
         Trouble::new(format!("The store {} cannot be used: {why}", self.root.display())).and(
-            "Where that cannot be mended, open the delivery again into a new store, and amend it again; accepted amendments are in the store's journal folder.",
+            "Where that cannot be mended, open the delivery again into a new store, and amend it again; accepted \
+             amendments are in the store's journal folder.",
         )
     }
 

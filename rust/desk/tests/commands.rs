@@ -98,6 +98,23 @@ Unsettled: the needed time is 99, the highest number its two columns can hold: t
         .is(0, "21:12 on 5 Jan 2016");
 }
 
+/// 999 of XCHANGES is at the top of its three columns, 099 is not.
+#[test]
+fn exceptions_may_be_unsettled() {
+    let folder = folder("exceptions");
+    let delivery = folder.join("delivery");
+    for (time, status, told) in
+        [("999", 4, "the highest number its three columns can hold"), ("099", 0, "needed  99 minutes")]
+    {
+        copy(&example(), &delivery);
+        let text = fs::read(delivery.join("XCHANGES")).unwrap();
+        fs::write(delivery.join("XCHANGES"), with(&text, ",045,", &format!(",{time},"))).unwrap();
+        let store = folder.join(time);
+        line("open {} {}", &[&delivery, &store]).is(0, "Accepted");
+        line("change {} 2 2 14122015 6 1 16122015", &[&store]).is(status, told).is(status, "by XCHANGES");
+    }
+}
+
 #[test]
 fn questions_are_answered() {
     let folder = folder("questions");
