@@ -1,9 +1,10 @@
 //! Questions from standard input, answers one a line.
 
 use std::ffi::OsStr;
-use std::io::{self, BufRead, Write};
+use std::io::{self, BufRead, BufReader, Read, Write};
 use std::os::unix::ffi::OsStrExt;
 use std::path::Path;
+use std::thread::{self, Builder};
 
 use proved::{Refusal, Side};
 use serde::Serialize;
@@ -15,6 +16,7 @@ use crate::files::latin;
 use crate::files::place::STATIONS;
 use crate::progress::Progress;
 use crate::store::{Lock, Store};
+use crate::tables::Tables;
 use crate::trouble::Trouble;
 
 /// A question, taken apart.
@@ -27,28 +29,81 @@ enum Question<'a> {
     Amend { service: u64, file: &'a Path },
 }
 
+impl Question<'_> {
+    fn is_of_tables(&self) -> bool {
+        matches!(self, Question::Runs { .. } | Question::Stop { .. } | Question::Change { .. })
+    }
+
+    /// The answer from tables; none for another question.
+    fn answer(&self, tables: &Tables) -> Result<String, Refusal> {
+        Ok(match *self {
+            Question::Runs { service, leg, date } => {
+                json(&Runs::of(proved::running_day(tables.lent(), service, leg, date)?))
+            }
+            Question::Stop { service, stop, date } => {
+                json(&Stop::of(&proved::stop_time(tables.lent(), service, stop, date)?))
+            }
+            Question::Change { from, to } => json(&Changed::of(&proved::change(tables.lent(), from, to)?)),
+            Question::Name(_) | Question::Lines(_) | Question::Amend { .. } => String::new(),
+        })
+    }
+}
+
 const FORMS: &str = "runs S L D, stop S I D, change S I D S I D, name CODE, lines S or amend S FILE";
 
-/// Answers every line of the input, in order.
-pub fn ask(root: &Path, input: impl BufRead, mut output: impl Write) -> Result<(), Trouble> {
+/// So many lines that have come are answered together, at most.
+const TOGETHER: usize = 64;
+
+/// The stack of a thread that asks: the proved functions keep indexes on it.
+const STACK: usize = 4 << 20;
+
+/// Answers every line of the input, in order. Questions to the tables that have
+/// come together are put to them at once, on all processors.
+pub fn ask(root: &Path, input: impl Read, mut output: impl Write) -> Result<(), Trouble> {
     let mut desk = Desk { root, store: Store::read(root, &Progress::hidden())?, stations: None };
     // Damaged or unsound tables are made again, or refused, before any answer.
     desk.store.sound(&Progress::hidden())?;
-    for line in input.split(b'\n') {
-        let line = line.map_err(|error| Trouble::new(format!("Standard input cannot be read: {error}.")))?;
-        let line = line.strip_suffix(b"\r").unwrap_or(&line);
-        let answer = match parse(line) {
-            Ok(question) => desk.settled(&question).unwrap_or_else(|trouble| error(trouble.to_string())),
-            Err(why) => error(why),
-        };
-        match writeln!(output, "{answer}").and_then(|()| output.flush()) {
-            Ok(()) => (),
-            // Nobody reads any more.
-            Err(error) if error.kind() == io::ErrorKind::BrokenPipe => return Ok(()),
-            Err(error) => return Err(Trouble::new(format!("Standard output cannot be written: {error}."))),
+    let mut input = BufReader::with_capacity(1 << 16, input);
+    loop {
+        let lines = next_lines(&mut input)
+            .map_err(|error| Trouble::new(format!("Standard input cannot be read: {error}.")))?;
+        if lines.is_empty() {
+            return Ok(());
+        }
+        let questions: Vec<_> = lines.iter().map(|line| parse(line)).collect();
+        let mut rest = &questions[..];
+        while !rest.is_empty() {
+            let of_tables =
+                |question: &&Result<Question, String>| question.as_ref().is_ok_and(Question::is_of_tables);
+            let (now, later) = rest.split_at(rest.iter().take_while(of_tables).count().max(1));
+            rest = later;
+            let answers: String = desk.answers(now).into_iter().map(|answer| answer + "\n").collect();
+            match output.write_all(answers.as_bytes()).and_then(|()| output.flush()) {
+                Ok(()) => (),
+                // Nobody reads any more.
+                Err(error) if error.kind() == io::ErrorKind::BrokenPipe => return Ok(()),
+                Err(error) => {
+                    return Err(Trouble::new(format!("Standard output cannot be written: {error}.")))
+                }
+            }
         }
     }
-    Ok(())
+}
+
+/// The next line, which is waited for, and those behind it that have come too.
+fn next_lines(input: &mut BufReader<impl Read>) -> io::Result<Vec<Vec<u8>>> {
+    let mut lines: Vec<Vec<u8>> = Vec::new();
+    while lines.is_empty() || (lines.len() < TOGETHER && input.buffer().contains(&b'\n')) {
+        let mut line = Vec::new();
+        if input.read_until(b'\n', &mut line)? == 0 {
+            break;
+        }
+        for end in [b'\n', b'\r'] {
+            line.pop_if(|last| *last == end);
+        }
+        lines.push(line);
+    }
+    Ok(lines)
 }
 
 fn error(error: String) -> String {
@@ -115,6 +170,52 @@ struct Desk<'a> {
 }
 
 impl Desk<'_> {
+    /// Answers one question, or several that are all put to the tables.
+    fn answers(&mut self, questions: &[Result<Question, String>]) -> Vec<String> {
+        if let Some(answers) = self.at_once(questions) {
+            return answers;
+        }
+        let answer = |question: &Result<Question, String>| match question {
+            Ok(question) => self.settled(question).unwrap_or_else(|trouble| error(trouble.to_string())),
+            Err(why) => error(why.clone()),
+        };
+        questions.iter().map(answer).collect()
+    }
+
+    /// The answers of all, each thread with its share. None where that is not to
+    /// be had: then they are put one by one.
+    fn at_once(&mut self, questions: &[Result<Question, String>]) -> Option<Vec<String>> {
+        let threads = thread::available_parallelism().map_or(1, usize::from).min(questions.len());
+        if threads < 2 || self.refresh().is_err() || self.store.ask(&Progress::hidden(), |_| Ok(())).is_err()
+        {
+            return None;
+        }
+        let tables = &self.store.tables;
+        let share_of = |share: &[Result<Question, String>]| -> Option<Vec<String>> {
+            let answer = |question: &Result<Question, String>| match question.as_ref().ok()?.answer(tables) {
+                // Such tables are made again first.
+                Err(Refusal(16)) => None,
+                answer => Some(answer.unwrap_or_else(|refusal| json(&Refused::nowhere(refusal)))),
+            };
+            share.iter().map(answer).collect()
+        };
+        thread::scope(|scope| {
+            let start = |share| Builder::new().stack_size(STACK).spawn_scoped(scope, move || share_of(share));
+            let shares: Vec<_> = questions.chunks(questions.len().div_ceil(threads)).map(start).collect();
+            let answered = shares.into_iter().map(|share| share.ok()?.join().ok()?);
+            answered.collect::<Option<Vec<Vec<String>>>>().map(|shares| shares.concat())
+        })
+    }
+
+    /// Reads the store again where another program has written it.
+    fn refresh(&mut self) -> Result<(), Trouble> {
+        if self.store.is_stale() {
+            self.store = Store::read(self.root, &Progress::hidden())?;
+            self.stations = None;
+        }
+        Ok(())
+    }
+
     /// An answer, from the new delivery where one is put into the store meanwhile.
     fn settled(&mut self, question: &Question) -> Result<String, Trouble> {
         const TRIES: usize = 5;
@@ -132,27 +233,12 @@ impl Desk<'_> {
         if let &Question::Amend { service, file } = question {
             return self.amend(service, file);
         }
-        if self.store.is_stale() {
-            self.store = Store::read(self.root, &Progress::hidden())?;
-            self.stations = None;
-        }
+        self.refresh()?;
         let hidden = Progress::hidden();
         Ok(match *question {
-            Question::Runs { service, leg, date } => {
-                let answer = self
-                    .store
-                    .ask(&hidden, |tables| proved::running_day(tables.lent(), service, leg, date))?;
-                answered(answer.map(Runs::of))
-            }
-            Question::Stop { service, stop, date } => {
-                let answer = self
-                    .store
-                    .ask(&hidden, |tables| proved::stop_time(tables.lent(), service, stop, date))?;
-                answered(answer.map(|times| Stop::of(&times)))
-            }
-            Question::Change { from, to } => {
-                let answer = self.store.ask(&hidden, |tables| proved::change(tables.lent(), from, to))?;
-                answered(answer.map(|change| Changed::of(&change)))
+            Question::Runs { .. } | Question::Stop { .. } | Question::Change { .. } => {
+                let answer = self.store.ask(&hidden, |tables| question.answer(tables))?;
+                answer.unwrap_or_else(|refusal| json(&Refused::nowhere(refusal)))
             }
             Question::Name(ref code) => {
                 if self.stations.is_none() {
