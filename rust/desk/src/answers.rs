@@ -1,0 +1,320 @@
+//! Answers in JSON. The keys are written down in docs/PROGRAM.md.
+
+use proved::{Answer, Change, Reason, Refusal, Running, Source, StopTimes, Time, Verdict};
+use serde_derive::Serialize;
+
+use crate::explain::Explanation;
+use crate::files::{latin, NAMES};
+use crate::records::unpack;
+
+#[derive(Serialize)]
+pub struct Accepted {
+    pub accepted: Counts,
+    /// The number that an amendment has in the journal.
+    #[serde(skip_serializing_if = "Option::is_none")]
+    pub amendment: Option<u64>,
+    /// Lines that the tables have room for beyond the file's own, by file.
+    #[serde(skip_serializing_if = "Option::is_none")]
+    pub room: Option<usize>,
+}
+
+#[derive(Serialize)]
+pub struct Counts {
+    pub days: u64,
+    pub services: u64,
+}
+
+impl Accepted {
+    pub fn of(answer: &Answer) -> Accepted {
+        Accepted {
+            accepted: Counts { days: answer.days, services: answer.services },
+            amendment: None,
+            room: None,
+        }
+    }
+}
+
+#[derive(Serialize)]
+pub struct Refused<P> {
+    pub refused: P,
+}
+
+/// Where a refusal is: no file, 0 and 0 where there is no place.
+#[derive(Serialize)]
+pub struct Place {
+    pub number: u64,
+    pub file: &'static str,
+    pub ordinal: u64,
+    pub line: u64,
+}
+
+impl Refused<Place> {
+    pub fn of(answer: &Answer) -> Refused<Place> {
+        let file = NAMES.get((answer.file as usize).wrapping_sub(1)).copied().unwrap_or("");
+        Refused { refused: Place { number: answer.number, file, ordinal: answer.ordinal, line: answer.line } }
+    }
+
+    pub fn nowhere(Refusal(number): Refusal) -> Refused<Place> {
+        Refused { refused: Place { number, file: "", ordinal: 0, line: 0 } }
+    }
+}
+
+/// The same with what a person is told.
+#[derive(Serialize)]
+pub struct ToldPlace<'a> {
+    number: u64,
+    file: &'static str,
+    ordinal: u64,
+    line: u64,
+    meaning: &'static str,
+    #[serde(skip_serializing_if = "Option::is_none")]
+    file_line: Option<u64>,
+    #[serde(skip_serializing_if = "Option::is_none")]
+    service: Option<&'a str>,
+    #[serde(skip_serializing_if = "Option::is_none")]
+    text: Option<String>,
+    #[serde(skip_serializing_if = "Option::is_none")]
+    columns: Option<(usize, usize)>,
+    #[serde(skip_serializing_if = "Option::is_none")]
+    field: Option<&'a str>,
+    #[serde(skip_serializing_if = "Option::is_none")]
+    found: Option<&'a str>,
+    #[serde(skip_serializing_if = "Option::is_none")]
+    expected: Option<&'a str>,
+    advice: &'a str,
+}
+
+impl<'a> Refused<ToldPlace<'a>> {
+    pub fn told(told: &'a Explanation) -> Refused<ToldPlace<'a>> {
+        let shown = told.shown.first();
+        Refused {
+            refused: ToldPlace {
+                number: told.number,
+                file: told.file,
+                ordinal: told.ordinal,
+                line: told.line,
+                meaning: told.meaning,
+                file_line: told.file_line,
+                service: told.service.as_deref(),
+                text: shown.map(|shown| latin(&shown.text)),
+                columns: shown.and_then(|shown| shown.mark),
+                field: told.field.as_deref(),
+                found: told.found.as_deref(),
+                expected: told.expected.as_deref(),
+                advice: &told.advice,
+            },
+        }
+    }
+}
+
+#[derive(Serialize)]
+pub struct Runs {
+    pub runs: bool,
+}
+
+impl Runs {
+    pub fn of(running: Running) -> Runs {
+        Runs { runs: running == Running::Runs }
+    }
+}
+
+/// Minutes from 0000 of the service day.
+#[derive(Serialize, Clone, Copy)]
+pub struct Minutes {
+    pub local: i32,
+    pub reference: i32,
+}
+
+impl Minutes {
+    fn of(time: Time) -> Minutes {
+        Minutes { local: time.local.0, reference: time.reference.0 }
+    }
+}
+
+#[derive(Serialize)]
+pub struct Stop {
+    pub station: String,
+    pub arrival: Option<Minutes>,
+    pub departure: Option<Minutes>,
+    #[serde(skip_serializing_if = "Option::is_none")]
+    pub name: Option<String>,
+}
+
+impl Stop {
+    pub fn of(times: &StopTimes) -> Stop {
+        Stop {
+            station: latin(&unpack(times.station, 7)),
+            arrival: times.arrival.map(Minutes::of),
+            departure: times.departure.map(Minutes::of),
+            name: None,
+        }
+    }
+}
+
+/// A change; what is not reached is left out.
+#[derive(Serialize)]
+pub struct Changed {
+    pub change: &'static str,
+    #[serde(skip_serializing_if = "Option::is_none")]
+    pub reason: Option<&'static str>,
+    #[serde(skip_serializing_if = "Option::is_none")]
+    pub gap: Option<i32>,
+    #[serde(skip_serializing_if = "Option::is_none")]
+    pub source: Option<&'static str>,
+    #[serde(skip_serializing_if = "Option::is_none")]
+    pub needed: Option<u64>,
+    #[serde(skip_serializing_if = "Option::is_none")]
+    pub from: Option<Side>,
+    #[serde(skip_serializing_if = "Option::is_none")]
+    pub to: Option<Side>,
+}
+
+/// One side of a change, where it is at.
+#[derive(Serialize)]
+pub struct Side {
+    pub station: String,
+    pub name: Option<String>,
+    /// Minutes on the station's clocks from 0000 of the service day: the arrival
+    /// of the one, the departure of the other.
+    pub local: Option<i64>,
+}
+
+impl Changed {
+    pub fn of(change: &Change) -> Changed {
+        let (verdict, reason) = match change.verdict {
+            Verdict::Yes => ("yes", None),
+            Verdict::No(reason) => ("no", Some(reason_of(reason))),
+            Verdict::Unsettled => ("unsettled", None),
+        };
+        Changed {
+            change: verdict,
+            reason,
+            gap: change.gap,
+            source: change.source.map(source_of),
+            needed: change.needed,
+            from: None,
+            to: None,
+        }
+    }
+}
+
+fn reason_of(reason: Reason) -> &'static str {
+    match reason {
+        Reason::SameServiceAndDate => "same-service-and-date",
+        Reason::FromDoesNotRun => "from-rests",
+        Reason::ToDoesNotRun => "to-rests",
+        Reason::StationsDiffer => "stations-differ",
+        Reason::NobodyAlights => "nobody-alights",
+        Reason::NobodyBoards => "nobody-boards",
+        Reason::PairImpossible => "pair-00",
+        Reason::NoChangesHere => "flag-0",
+        Reason::GapTooShort => "gap-below-needed",
+    }
+}
+
+fn source_of(source: Source) -> &'static str {
+    match source {
+        Source::Changes => "changes",
+        Source::Stations => "stations",
+        Source::XChanges => "xchanges",
+    }
+}
+
+#[derive(Serialize)]
+pub struct Name {
+    pub name: String,
+}
+
+#[derive(Serialize)]
+pub struct TextLines {
+    pub lines: String,
+}
+
+#[derive(Serialize)]
+pub struct Error {
+    pub error: String,
+}
+
+/// A service as it stands.
+#[derive(Serialize)]
+pub struct Service {
+    pub service: u64,
+    pub numbers: Vec<Number>,
+    pub validities: Vec<Validity>,
+    pub modes: Vec<Mode>,
+    pub attributes: Vec<Attribute>,
+    pub stops: Vec<Called>,
+}
+
+#[derive(Serialize)]
+pub struct Number {
+    pub company: u64,
+    pub name: Option<String>,
+    pub number: u64,
+    pub first: u64,
+    pub last: u64,
+}
+
+#[derive(Serialize)]
+pub struct Validity {
+    pub footnote: u64,
+    pub first: u64,
+    pub last: u64,
+    /// On how many days of validity it runs there.
+    pub days: usize,
+    /// Whether it runs there on the date that was asked for.
+    #[serde(skip_serializing_if = "Option::is_none")]
+    pub runs: Option<bool>,
+}
+
+#[derive(Serialize)]
+pub struct Mode {
+    pub mode: String,
+    pub name: Option<String>,
+    pub first: u64,
+    pub last: u64,
+}
+
+#[derive(Serialize)]
+pub struct Attribute {
+    pub attribute: String,
+    pub first: u64,
+    pub last: u64,
+    pub footnote: u64,
+}
+
+/// A stop, or a station that is passed, which has no number.
+#[derive(Serialize)]
+pub struct Called {
+    pub stop: Option<u64>,
+    pub station: String,
+    pub name: Option<String>,
+    pub arrival: Option<i64>,
+    pub departure: Option<i64>,
+    pub alight: bool,
+    pub board: bool,
+}
+
+#[derive(Serialize)]
+pub struct Station {
+    pub station: String,
+    pub name: Option<String>,
+    pub flag: u64,
+    pub change_time: u64,
+    pub country: String,
+    pub zone: u64,
+    pub calls: Vec<Caller>,
+}
+
+#[derive(Serialize)]
+pub struct Caller {
+    pub service: u64,
+    pub stop: u64,
+    pub arrival: Option<i64>,
+    pub departure: Option<i64>,
+}
+
+/// One line of JSON.
+pub fn json(answer: &impl serde::Serialize) -> String {
+    serde_json::to_string(answer).unwrap_or_else(|error| format!("{{\"error\":\"{error}\"}}"))
+}

@@ -1,0 +1,102 @@
+//! The file of the eleven tables: 64-bit words, lowest byte first. A head of 28
+//! words: `calyxtab`, the version, how many amendments the tables have, eleven
+//! lengths, eleven counts of words in use, the sum of these, a 0, the sum of the
+//! head. Then the words in use; all others are zero.
+
+use std::io::{self, ErrorKind};
+use std::path::{Path, PathBuf};
+
+use super::opened;
+use crate::disk::{bytes_of, read_words, sum_words, write_synced};
+use crate::files::FILES;
+use crate::tables::Tables;
+use crate::trouble::Trouble;
+
+const HEAD: usize = 3 + 2 * FILES + 3;
+const MARK: u64 = u64::from_le_bytes(*b"calyxtab");
+const VERSION: u64 = 1;
+const SUM: usize = HEAD - 3;
+const SUM_OF_HEAD: usize = HEAD - 1;
+
+pub struct Read {
+    pub tables: Tables,
+    pub amendments: u64,
+    pub sum: u64,
+}
+
+impl Read {
+    pub fn lengths(&self) -> [usize; FILES] {
+        self.tables.0.each_ref().map(Vec::len)
+    }
+}
+
+/// Why tables could not be read, and how many amendments they are known to have.
+pub struct Unread {
+    pub why: String,
+    pub amendments: u64,
+}
+
+impl From<&str> for Unread {
+    fn from(why: &str) -> Unread {
+        Unread { why: why.into(), amendments: 0 }
+    }
+}
+
+const CUT_SHORT: &str = "The store's tables are cut short";
+const NOT_READ: &str = "The store's tables cannot be read";
+const DAMAGED: &str = "The head of the store's tables is damaged";
+
+pub fn path(folder: &Path) -> PathBuf {
+    folder.join("tables")
+}
+
+/// The sum of all words of the tables.
+pub fn sum(tables: &Tables) -> u64 {
+    sum_words(&tables.0.each_ref().map(|table| sum_words(table)))
+}
+
+/// Reads the tables, or says in what way they are not there.
+pub fn read(folder: &Path) -> Result<Read, Unread> {
+    let path = path(folder);
+    let file = match opened(&path) {
+        Ok(file) => file,
+        Err(trouble) if trouble.gone => return Err("The store's tables are missing".into()),
+        Err(_) => return Err(NOT_READ.into()),
+    };
+    let mut head = [0; HEAD];
+    read_words(&file, 0, &mut head).map_err(|_| Unread::from(CUT_SHORT))?;
+    if head[0] != MARK || head[1] != VERSION || head[SUM_OF_HEAD] != sum_words(&head[..SUM_OF_HEAD]) {
+        return Err(DAMAGED.into());
+    }
+    let mut from = size_of_val(&head) as u64;
+    let mut tables = Tables::default();
+    for (place, table) in tables.0.iter_mut().enumerate() {
+        let (length, used) = (head[3 + place] as usize, head[3 + FILES + place] as usize);
+        *table = vec![0; length];
+        let words = table.get_mut(..used).ok_or(Unread::from(DAMAGED))?;
+        read_words(&file, from, words).map_err(|error| {
+            let why = if error.kind() == ErrorKind::UnexpectedEof { CUT_SHORT } else { NOT_READ };
+            Unread { why: why.into(), amendments: head[2] }
+        })?;
+        from += (used * size_of::<u64>()) as u64;
+    }
+    Ok(Read { tables, amendments: head[2], sum: head[SUM] })
+}
+
+/// Writes the tables into a file and waits until the disk has it.
+pub fn write(path: &Path, tables: &Tables, amendments: u64, written: impl FnMut(u64)) -> Result<(), Trouble> {
+    let used: [usize; FILES] = std::array::from_fn(|place| tables.used(place));
+    let mut head = [0; HEAD];
+    (head[0], head[1], head[2]) = (MARK, VERSION, amendments);
+    for place in 0..FILES {
+        (head[3 + place], head[3 + FILES + place]) = (tables.0[place].len() as u64, used[place] as u64);
+    }
+    head[SUM] = sum(tables);
+    head[SUM_OF_HEAD] = sum_words(&head[..SUM_OF_HEAD]);
+    let words: Vec<_> = (0..FILES).map(|place| bytes_of(&tables.0[place][..used[place]])).collect();
+    let head = bytes_of(&head);
+    let mut parts: Vec<&[u8]> = vec![&head];
+    parts.extend(words.iter().map(|words| &words[..]));
+    let done: io::Result<()> = write_synced(path, &parts, written);
+    done.map_err(|error| Trouble::writing(path, &error))
+}

@@ -1,0 +1,181 @@
+//! The eleven tables of a loaded delivery, and what is shown of their rows
+//! (docs/TABLES.md). Rows are looked at only in tables that were found sound.
+
+use crate::files::place::*;
+use crate::files::FILES;
+
+/// The words of a row, by file.
+pub const WIDTHS: [usize; FILES] = [6, 6, 6, 6, 6, 6, 14, 7, 6, 14, 7];
+
+#[derive(Clone, Default, PartialEq)]
+pub struct Tables(pub [Vec<u64>; FILES]);
+
+/// Days of validity, as numbers DDMMYYYY.
+#[derive(Clone, Copy)]
+pub struct Validity {
+    pub first: u64,
+    pub last: u64,
+}
+
+/// A numbered stop of a service.
+#[derive(Clone, Copy)]
+pub struct Stop {
+    pub station: u64,
+    /// Times as written, HHMM.
+    pub arrival: Option<u64>,
+    pub departure: Option<u64>,
+}
+
+/// A row of STATIONS.
+#[derive(Clone, Copy)]
+pub struct Station {
+    pub flag: u64,
+    pub code: u64,
+    pub change_time: u64,
+    pub country: u64,
+    pub zone: u64,
+}
+
+/// A period of a time zone.
+#[derive(Clone, Copy)]
+pub struct Period {
+    pub ahead: bool,
+    pub hours: u64,
+    pub first: u64,
+    pub last: u64,
+}
+
+/// The rows of a service, its `#` first.
+#[derive(Clone, Copy)]
+pub struct Service<'a> {
+    rows: &'a [u64],
+}
+
+impl Tables {
+    pub fn empty(lengths: &[usize; FILES]) -> Tables {
+        Tables(lengths.map(|length| vec![0; length]))
+    }
+
+    pub fn lent(&self) -> [&[u64]; FILES] {
+        self.0.each_ref().map(Vec::as_slice)
+    }
+
+    pub fn lent_mut(&mut self) -> [&mut [u64]; FILES] {
+        self.0.each_mut().map(Vec::as_mut_slice)
+    }
+
+    /// How many words of a table are in use.
+    pub fn used(&self, file: usize) -> usize {
+        self.rows(file).count() * WIDTHS[file]
+    }
+
+    pub fn rows(&self, file: usize) -> impl Iterator<Item = &[u64]> {
+        self.0[file].chunks_exact(WIDTHS[file]).take_while(|row| row[0] != 0)
+    }
+
+    /// How many lines more a table has room for.
+    pub fn room(&self, file: usize) -> usize {
+        self.0[file].len() / WIDTHS[file] - self.rows(file).count()
+    }
+
+    pub fn validity(&self) -> Validity {
+        let table = &self.0[DELIVERY];
+        Validity { first: table.get(2).copied().unwrap_or(0), last: table.get(3).copied().unwrap_or(0) }
+    }
+
+    pub fn services(&self) -> impl Iterator<Item = Service<'_>> {
+        const WIDTH: usize = WIDTHS[TIMETBLS];
+        let mut rest = self.0[TIMETBLS].get(WIDTH..).unwrap_or_default();
+        std::iter::from_fn(move || {
+            let opening = rest.get(..WIDTH).filter(|row| row[0] == u64::from(b'#'))?;
+            let words = (opening[2] as usize).checked_mul(WIDTH)?;
+            let rows = rest.get(..words.max(WIDTH))?;
+            rest = &rest[rows.len()..];
+            Some(Service { rows })
+        })
+    }
+
+    pub fn service(&self, number: u64) -> Option<Service<'_>> {
+        self.services().find(|service| service.number() == number)
+    }
+
+    pub fn station(&self, code: u64) -> Option<Station> {
+        self.stations().find(|station| station.code == code)
+    }
+
+    pub fn stations(&self) -> impl Iterator<Item = Station> + '_ {
+        self.rows(STATIONS).skip(1).map(|row| Station {
+            flag: row[1],
+            code: row[2],
+            change_time: row[3],
+            country: row[4],
+            zone: row[5],
+        })
+    }
+
+    /// The periods of a zone.
+    pub fn periods(&self, zone: u64) -> Vec<Period> {
+        let is_opening = |row: &&[u64]| row[0] == u64::from(b'#');
+        self.rows(TIMEZONE)
+            .skip(1)
+            .skip_while(|row| !(is_opening(row) && row[1] == zone))
+            .skip(1)
+            .take_while(|row| !is_opening(row))
+            .map(|row| Period {
+                ahead: row[0] == u64::from(b'+'),
+                hours: row[1],
+                first: row[2],
+                last: row[3],
+            })
+            .collect()
+    }
+
+    /// The vector of a footnote: whether each day, from the first, has 1.
+    pub fn days_of(&self, footnote: u64, days: usize) -> Option<Vec<bool>> {
+        let mut rows = self.rows(FOOTNOTE).skip(1);
+        rows.find(|row| row[0] == u64::from(b'#') && row[1] == footnote)?;
+        let vector = rows.next()?;
+        let has = |day: usize| vector.get(1 + day / 64).is_some_and(|word| word >> (day % 64) & 1 == 1);
+        Some((0..days).map(has).collect())
+    }
+}
+
+impl<'a> Service<'a> {
+    pub fn number(&self) -> u64 {
+        self.rows[1]
+    }
+
+    pub fn stop_count(&self) -> u64 {
+        self.rows[3]
+    }
+
+    pub fn rows(&self) -> impl Iterator<Item = &'a [u64]> {
+        self.rows.chunks_exact(WIDTHS[TIMETBLS])
+    }
+
+    /// The rows with a letter.
+    pub fn records(&self, letter: u8) -> impl Iterator<Item = &'a [u64]> {
+        self.rows().filter(move |row| row[0] == u64::from(letter))
+    }
+
+    pub fn stops(&self) -> impl Iterator<Item = Stop> + 'a {
+        self.rows().filter_map(stop_of)
+    }
+
+    pub fn stop(&self, number: u64) -> Option<Stop> {
+        self.stops().nth(usize::try_from(number.checked_sub(1)?).ok()?)
+    }
+}
+
+/// The numbered stop that a row of TIMETBLS is, if it is one.
+pub fn stop_of(row: &[u64]) -> Option<Stop> {
+    let some = |time: u64| (time != 9999).then_some(time);
+    let (arrival, departure) = match u8::try_from(row[0]).ok()? {
+        b'>' => (None, Some(row[2])),
+        b'.' => (Some(row[2]), Some(row[2])),
+        b'+' => (some(row[2]), some(row[3])),
+        b'<' => (Some(row[2]), None),
+        _ => return None,
+    };
+    Some(Stop { station: row[1], arrival, departure })
+}

@@ -1,0 +1,328 @@
+//! Every command end to end: exit status, text and JSON.
+
+mod common;
+
+use std::ffi::OsStr;
+use std::fs;
+
+use common::*;
+use serde_json::json;
+
+#[test]
+fn a_delivery_is_checked() {
+    line("check {}", &[&example()]).is(0, "Accepted: 364 days, 13 Dec 2015 to 10 Dec 2016; 6 services.\n");
+    let said = line("check {} --json", &[&example()]);
+    assert_eq!((said.status, said.out.as_str()), (Some(0), "{\"accepted\":{\"days\":364,\"services\":6}}\n"));
+    assert_eq!(said.err, "");
+}
+
+/// The whole text of a refusal, and its JSON.
+#[test]
+fn a_refusal_is_told_in_words() {
+    let folder = folder("refusal");
+    copy(&example(), &folder);
+    let timetable = fs::read(folder.join("TIMETBLS")).unwrap();
+    fs::write(folder.join("TIMETBLS"), with(&timetable, "<HAR    ,3030", "<HAX    ,3030")).unwrap();
+    let said = line("check {}", &[&folder]);
+    let expected = "\
+Refused 9: what is named is not in its own file
+  where     TIMETBLS, line 7 (block 1, service 00000001, line 6 of the block)
+            <HAX    ,3030
+             ^^^^^^^
+  found     station \"HAX    \", which STATIONS does not have
+  expected  a station that STATIONS has in columns 3-9
+  to do     STATIONS has HAR: is that meant? Correct the line, or have station \"HAX    \" added to STATIONS.
+";
+    assert_eq!((said.status, said.out.as_str(), said.err.as_str()), (Some(1), expected, ""));
+    let said = line("check {} --json", &[&folder]);
+    assert_eq!(said.status, Some(1));
+    let refused = &said.json()["refused"];
+    let place = json!([9, "TIMETBLS", 1, 6, 7, "00000001", [2, 8], "station", "<HAX    ,3030"]);
+    let keys = ["number", "file", "ordinal", "line", "file_line", "service", "columns", "field", "text"];
+    assert_eq!(json!(keys.map(|key| refused[key].clone())), place);
+    for key in ["meaning", "found", "expected", "advice"] {
+        assert!(refused[key].is_string(), "{said:#?}");
+    }
+    let store = folder.join("store");
+    line("open {} {}", &[&folder, &store]).is(1, "No store was made");
+    assert!(!store.exists());
+}
+
+#[test]
+fn files_are_found_and_missed() {
+    let folder = folder("found");
+    let missing = folder.join("nothing here");
+    line("check {}", &[&missing]).is(2, "it is not there. Is the name spelt right?");
+    let said = line("check {} --json", &[&missing]);
+    assert!(said.status == Some(2) && said.json()["error"].is_string());
+    line("check {}", &[&folder]).is(1, "Refused 3: a needed file is absent\n  where     DELIVERY");
+    line("check {}", &[&example().join("DELIVERY")]).is(2, "is a file. Give the folder");
+}
+
+#[test]
+fn changes_are_answered() {
+    let folder = folder("changes");
+    let store = opened(&folder);
+    let unsettled = "\
+Unsettled: the needed time is 99, the highest number its two columns can hold: the real time may be longer. Gap 130. Ask the supplier before selling.
+  leave   service 00000001 at stop 2, HAR Harwich International: arrives 06:30 the day after 14 Dec 2015
+  board   service 00000003 at stop 1, HAR Harwich International: departs 08:40 on 15 Dec 2015
+  gap     130 minutes (2 h 10)
+  needed  99 minutes (1 h 39), by STATIONS
+";
+    let said = line("change {} 1 2 14122015 3 1 2015-12-15", &[&store]);
+    assert_eq!((said.status, said.out.as_str(), said.err.as_str()), (Some(4), unsettled, ""));
+    let said = line("change {} 1 2 14122015 3 1 15122015 --json", &[&store]);
+    let expected = "{\"change\":\"unsettled\",\"gap\":130,\"source\":\"stations\",\"needed\":99,\"from\":{\"station\":\"HAR    \",\"name\":\"Harwich International\",\"local\":1830},\"to\":{\"station\":\"HAR    \",\"name\":\"Harwich International\",\"local\":520}}\n";
+    assert_eq!((said.status, said.out.as_str()), (Some(4), expected));
+
+    let ask = |words: &str| line(&format!("change {{}} {words}"), &[&store]);
+    ask("5 3 14122015 1 1 14122015")
+        .is(0, "Yes: the change can be sold.")
+        .is(0, "needed  0 minutes, by CHANGES");
+    ask("2 2 14122015 6 1 15122015").is(3, "No: the gap of 37 is below the needed time of 45.");
+    ask("2 2 14122015 6 1 14122015").is(3, "No: the second service has left 1403 minutes (23 h 23) before");
+    ask("1 2 14122015 1 1 14122015").is(3, "No: it is the same service on the same date.");
+    ask("1 2 25122015 3 1 26122015").is(3, "No: service 00000001 does not run to stop 2 on 25 Dec 2015.");
+    ask("3 4 18122015 4 1 19122015").is(3, "No: service 00000004 does not run from stop 1 on 19 Dec 2015.");
+    ask("1 2 14122015 5 1 15122015").is(3, "No: the stations differ: HAR Harwich International and RTD");
+    ask("3 3 14122015 4 2 14122015").is(3, "No: nobody may board service 00000004 at COL Colchester.");
+    ask("9 2 14122015 3 1 15122015").is(1, "service 00000009 (the one to leave)");
+    ask("1 1 14122015 3 1 15122015").is(1, "a stop from 2 to 2: one alights at stop 2 and later");
+    ask("1 2 14122015 3 4 15122015").is(1, "a stop from 1 to 3: one boards before the last stop");
+    ask("1 2 14122014 3 1 15122015")
+        .is(1, "14 Dec 2014 (the one to leave), which is outside the delivery's validity");
+    ask("1 2 14122015 3 1 31022016").is(1, "31022016 (the one to board), which no calendar has");
+    let words = ["change", "5", "3", "5 Jan 2016", "1", "1", "5 jan 2016"].map(OsStr::new);
+    run([words[0], store.as_os_str()].into_iter().chain(words[1..].iter().copied()))
+        .is(0, "21:12 on 5 Jan 2016");
+}
+
+/// 999 of XCHANGES is at the top of its three columns, 099 is not.
+#[test]
+fn exceptions_may_be_unsettled() {
+    let folder = folder("exceptions");
+    let delivery = folder.join("delivery");
+    for (time, status, told) in
+        [("999", 4, "the highest number its three columns can hold"), ("099", 0, "needed  99 minutes")]
+    {
+        copy(&example(), &delivery);
+        let text = fs::read(delivery.join("XCHANGES")).unwrap();
+        fs::write(delivery.join("XCHANGES"), with(&text, ",045,", &format!(",{time},"))).unwrap();
+        let store = folder.join(time);
+        line("open {} {}", &[&delivery, &store]).is(0, "Accepted");
+        line("change {} 2 2 14122015 6 1 16122015", &[&store]).is(status, told).is(status, "by XCHANGES");
+    }
+}
+
+#[test]
+fn questions_are_answered() {
+    let folder = folder("questions");
+    let store = opened(&folder);
+    let ask = |words: &str| {
+        let (command, rest) = words.split_once(' ').unwrap();
+        line(&format!("{command} {{}} {rest}"), &[&store])
+    };
+    ask("runs 1 1 14122015")
+        .is(0, "Service 00000001 runs on 14 Dec 2015 on leg 1, from HVH Hoek van Holland Haven to HAR");
+    ask("runs 1 1 25122015").is(0, "Service 00000001 does not run on 25 Dec 2015");
+    assert_eq!(ask("runs 1 1 25122015 --json").out, "{\"runs\":false}\n");
+    ask("runs 1 2 14122015").is(1, "a leg from 1 to 1");
+    ask("runs 1 1 99999999999999999999999999").is(1, "Refused 14");
+    ask("stop 1 2 14122015").is(0, "arrives  06:30 the day after 14 Dec 2015").is(0, "departs  it ends here");
+    ask("stop 4 2 14122015").is(0, "departs  nobody boards");
+    ask("stop 1 1 1072016").is(0, "departs  22:00 on 1 Jul 2016 (reference clock 20:00)");
+    let stop = "{\"station\":\"HAR    \",\"arrival\":{\"local\":1830,\"reference\":1830},\"departure\":null,\"name\":\"Harwich International\"}\n";
+    assert_eq!(ask("stop 1 2 14122015 --json").out, stop);
+    ask("stop 1 3 14122015").is(1, "a stop from 1 to 2");
+
+    let service = "\
+Service 00000004, 3 stops
+  number 902 of company 300 Greater Anglia
+  mode IC Intercity
+  runs on 260 days from 13 Dec 2015 to 10 Dec 2016 (footnote 00002); does not run on 19 Dec 2015
+
+  stop  station                      arrives              departs
+     1  LST London Liverpool Street                       19:32                board
+     2  COL Colchester               20:28                                     alight only
+        MNG Manningtree                                                        passes without a stop
+     3  HAR Harwich International    20:58                                     alight
+";
+    assert_eq!(ask("service 4 2015-12-19").out, service);
+    ask("service 1").is(0, "06:30 the day after");
+    ask("service 1 14122014").is(1, "Refused 14");
+    ask("service 7").is(1, "one of the delivery's 6 services, numbered from 00000001 to 00000006");
+    let shown = ask("service 4 19122015 --json").json();
+    assert_eq!(
+        shown["stops"][1],
+        json!({"stop":2,"station":"COL    ","name":"Colchester","arrival":1228,"departure":null,"alight":true,"board":false})
+    );
+    assert_eq!(shown["validities"], json!([{"footnote":2,"first":1,"last":3,"days":260,"runs":false}]));
+
+    ask("station HAR")
+        .is(0, "HAR Harwich International\n")
+        .is(0, "change time 99, the highest number")
+        .is(0, "calls        4");
+    ask("station MNG").is(0, "none are made here (flag 0)");
+    ask("station har").is(1, "Refused 17").is(1, "STATIONS has HAR: is that meant?");
+    let shown = ask("station LST --json").json();
+    assert_eq!(
+        (&shown["name"], &shown["calls"][1]["service"]),
+        (&json!("London Liverpool Street"), &json!(4))
+    );
+
+    let lines = block(&store, 1);
+    assert!(lines.starts_with(b"#00000001\r\n") && lines.ends_with(b"<HAR    ,3030\r\n"));
+    assert_eq!(ask("lines 1 --json").json()["lines"].as_str().unwrap().as_bytes(), lines);
+    ask("lines 7").is(1, "Refused 12");
+    line("runs {} 1 1 1", &[&example()]).is(2, "is a delivery and no store. First: calyxcabin open");
+    line("runs {} 1 1 1", &[&folder]).is(2, "is no store, or its `open` was not finished");
+}
+
+#[test]
+fn stores_are_made_and_amended() {
+    let folder = folder("amended");
+    let store = opened(&folder);
+    line("open {} {}", &[&example(), &store])
+        .is(2, "is a store already. Give another folder, or `--replace`");
+    let held = block(&store, 1);
+    let file = folder.join("block");
+    let amend = |service: u64, block: &[u8]| {
+        fs::write(&file, block).unwrap();
+        line(&format!("amend {{}} {service} {{}}"), &[&store, &file])
+    };
+    let earlier = with(&held, ",2200", ",2130");
+    amend(1, &earlier).is(0, "this is amendment 1").is(0, "room for 100 lines more in TIMETBLS");
+    assert_eq!(block(&store, 1), earlier);
+    line("change {} 5 3 14122015 1 1 14122015", &[&store]).is(0, "gap     18 minutes");
+    amend(1, &with(&held, "HAR", "XYZ")).is(1, "Refused 9").is(1, "line 6 of the block");
+    amend(1, &with(&held, "000,999", "001,003")).is(1, "Refused 10").is(1, "of a service with 2 stops");
+    amend(1, &with(&held, "\r\n", "\n")).is(1, "Refused 11").is(1, "lines that end in LF alone");
+    amend(2, &held).is(1, "Refused 11").is(1, "`#00000002` as the first line");
+    amend(7, &with(&held, "#00000001", "#00000007")).is(1, "Refused 12");
+    amend(1, b"").is(1, "an empty file");
+    line("amend {} 1 {}", &[&store, &folder.join("none")]).is(2, "it is not there");
+    line("amend {} 1 {}", &[&folder, &file]).is(2, "is no store");
+    assert!(!folder.join("lock").exists());
+    assert_eq!(block(&store, 1), earlier);
+    // A hundred lines more than there were: just enough room, and one too many.
+    let grown = with(&held, "<HAR", &format!("{}<HAR", ";HAR    \r\n".repeat(100)));
+    let said = amend(1, &grown);
+    said.is(0, "this is amendment 2").is(0, "room for 0 lines more");
+    amend(2, &with(&block(&store, 2), "<HVH", ";HAR    \r\n<HVH")).is(1, "Refused 2").is(1, "--spare LINES");
+    let said = line(
+        "amend {} 1 {} --json",
+        &[&store, &{
+            fs::write(&file, &held).unwrap();
+            file.clone()
+        }],
+    );
+    assert_eq!(said.out, "{\"accepted\":{\"days\":364,\"services\":6},\"amendment\":3}\n");
+    line("open {} {}", &[&example(), &store]).is(2, "is a store already, with 3 amendments.");
+    line("open {} {} --replace --spare 7", &[&example(), &store]).is(0, "room for 7 lines more in TIMETBLS.");
+    assert_eq!(block(&store, 1), held);
+    assert_eq!(fs::read_dir(store.join("2/journal")).unwrap().count(), 0);
+    assert!(!store.join("1").exists());
+    line("open {} {}", &[&example(), &folder]).is(2, "has other files in it");
+    line("open {} {}", &[&example(), &file]).is(2, "is a file. Give a folder for the store");
+    line("open {} {}", &[&example(), &folder.join("a/b")])
+        .is(2, "the folder it should stand in is not there");
+}
+
+/// Two clerks at once: both amendments are there, whoever came first.
+#[test]
+fn clerks_wait_for_each_other() {
+    let folder = folder("clerks");
+    let store = opened(&folder);
+    let clerks: Vec<_> = (1..=6u64)
+        .map(|service| {
+            let (store, file) = (store.clone(), folder.join(service.to_string()));
+            std::thread::spawn(move || {
+                for round in 0..5 {
+                    let held = block(&store, service);
+                    fs::write(&file, with(&held, "#", "#")).unwrap();
+                    line(&format!("amend {{}} {service} {{}}"), &[&store, &file]).is(0, "Accepted");
+                    let _ = round;
+                }
+            })
+        })
+        .collect();
+    clerks.into_iter().for_each(|clerk| clerk.join().unwrap());
+    assert_eq!(fs::read_dir(store.join("1/journal")).unwrap().count(), 30);
+    line("runs {} 1 1 14122015", &[&store]).is(0, "runs");
+}
+
+/// A long `ask` sees what others amend meanwhile.
+#[test]
+fn readers_see_amendments() {
+    use std::io::{BufRead, BufReader, Write};
+    use std::process::{Command, Stdio};
+    let folder = folder("readers");
+    let store = opened(&folder);
+    let mut asking = Command::new(PROGRAM)
+        .arg("ask")
+        .arg(&store)
+        .stdin(Stdio::piped())
+        .stdout(Stdio::piped())
+        .spawn()
+        .unwrap();
+    let (mut input, mut output) =
+        (asking.stdin.take().unwrap(), BufReader::new(asking.stdout.take().unwrap()));
+    let mut ask = |question: &str| {
+        writeln!(input, "{question}").unwrap();
+        let mut answer = String::new();
+        output.read_line(&mut answer).unwrap();
+        answer
+    };
+    assert!(ask("stop 1 1 14122015").contains("\"local\":1320"));
+    let file = folder.join("block");
+    fs::write(&file, with(&block(&store, 1), ",2200", ",2130")).unwrap();
+    line("amend {} 1 {}", &[&store, &file]).is(0, "amendment 1");
+    assert!(ask("stop 1 1 14122015").contains("\"local\":1290"));
+    line("open {} {} --replace", &[&example(), &store]).is(0, "Accepted");
+    assert!(ask("stop 1 1 14122015").contains("\"local\":1320"));
+    assert!(ask("name HVH").contains("Hoek van Holland Haven"));
+    drop(input);
+    assert!(asking.wait().unwrap().success());
+}
+
+#[test]
+fn help_and_spelling() {
+    for command in [
+        "check",
+        "open",
+        "change",
+        "runs",
+        "stop",
+        "service",
+        "station",
+        "lines",
+        "amend",
+        "ask",
+        "completions",
+    ] {
+        run([command, "--help"]).is(0, "Example:\n").is(0, "--json");
+        run(["--help"]).is(0, &format!("\n  {command} "));
+    }
+    run(["--help"]).is(0, "Exit status: 0 accepted");
+    run(["chnage"]).is(2, "Did you mean 'change'?");
+    run(["change", "store", "1"]).is(2, "required arguments were not provided");
+    run(["runs", "store", "1", "1", "yesterday"])
+        .is(2, "is no date. Write it as 05122015, 2015-12-05 or \"5 Dec 2015\".");
+    run(["runs", "store", "one", "1", "1"]).is(2, "is no number");
+    run(["--version"]).is(0, "calyxcabin");
+    let nothing: [&str; 0] = [];
+    run(nothing).is(2, "Usage: calyxcabin");
+    for shell in ["bash", "zsh", "fish"] {
+        run(["completions", shell]).is(0, "station");
+    }
+}
+
+/// Text for a pipe has no colour and no progress.
+#[test]
+fn pipes_are_plain() {
+    let folder = folder("plain");
+    let store = opened(&folder);
+    let said = line("change {} 1 2 14122015 3 1 15122015", &[&store]);
+    assert!(!said.out.contains('\x1b') && said.err.is_empty(), "{said:#?}");
+}
