@@ -148,7 +148,8 @@ module _ (f : RowFile) (form : Form) (text : List ℕ) (from : ℕ) (countries z
           let m : suc (j + 1) ≤ suc (length rest) = omega (arith, more) in
           record {
             runs = i .runs ∙ rw (keys-are t j (omega (arith, more)) (i .holds));
-            room = rw (length-is t j (omega (arith, more)) (i .holds)) (omega (arith, rw suc-mul at (mul-le-mul-right (rowWidth (Rows f)) m), b .begun .room));
+            room =
+                rw (length-is t j (omega (arith, more)) (i .holds)) (omega (arith, rw suc-mul at (mul-le-mul-right (rowWidth (Rows f)) m), b .begun .room));
             few = few;
           }
 

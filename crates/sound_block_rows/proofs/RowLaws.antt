@@ -59,37 +59,45 @@ module _ (c : Context) (stops : ℕ) (r : Row) (n : length r ≡ rowWidth Timetb
   pub train-row : tag r ≡ percent → (z : Bool) → z ≡ zeros 0 0 0 (word r 5) → (ks : List ℕ) → c .keys (Rows Company) ≡ ks → (b : Bool)
       → b ≡ (((ltb (word r 1) 1000 && (ltb (word r 2) 100000 && true)) && z) && has (word r 1) ks) → b ≡ rowTests c stops r
   train-row t z e ks k b h =
-      found ((ltb (word r 1) 1000 && (ltb (word r 2) 100000 && true))) z (zeros 0 0 0 (word r 5)) true true (has (word r 1) (c .keys (Rows Company))) b ks (word r 1) e refl (ap (has (word r 1)) (sym k)) h
+      found ((ltb (word r 1) 1000 && (ltb (word r 2) 100000 && true))) z (zeros 0 0 0 (word r 5)) true true (has (word r 1) (c .keys (Rows Company)))
+      b ks (word r 1) e refl (ap (has (word r 1)) (sym k)) h
       ∙ sym (by-words percent t ∙ train c stops (word r 1) (word r 2) (word r 3) (word r 4) (word r 5) (word r 6))
 
   pub validity-row : tag r ≡ dash → (z : Bool) → z ≡ zeros 0 0 (word r 4) (word r 5) → (ks : List ℕ) → c .keys (Groups Footnote) ≡ ks → (b : Bool)
       → b ≡ (((ltb (word r 1) 100000 && true) && z) && has (word r 1) ks) → b ≡ rowTests c stops r
   validity-row t z e ks k b h =
-      found ((ltb (word r 1) 100000 && true)) z (zeros 0 0 (word r 4) (word r 5)) true true (has (word r 1) (c .keys (Groups Footnote))) b ks (word r 1) e refl (ap (has (word r 1)) (sym k)) h
+      found ((ltb (word r 1) 100000 && true)) z (zeros 0 0 (word r 4) (word r 5)) true true (has (word r 1) (c .keys (Groups Footnote))) b ks
+      (word r 1) e refl (ap (has (word r 1)) (sym k)) h
       ∙ sym (by-words dash t ∙ validity c stops (word r 1) (word r 2) (word r 3) (word r 4) (word r 5) (word r 6))
 
   pub transport-row : tag r ≡ ampersand → (z : Bool) → z ≡ zeros 0 0 (word r 4) (word r 5) → (ks : List ℕ) → c .keys (Rows Trnsmode) ≡ ks → (b : Bool)
       → b ≡ (((codeRight 4 (word r 1) && true) && z) && has (word r 1) ks) → b ≡ rowTests c stops r
   transport-row t z e ks k b h =
-      found ((codeRight 4 (word r 1) && true)) z (zeros 0 0 (word r 4) (word r 5)) true true (has (word r 1) (c .keys (Rows Trnsmode))) b ks (word r 1) e refl (ap (has (word r 1)) (sym k)) h
+      found ((codeRight 4 (word r 1) && true)) z (zeros 0 0 (word r 4) (word r 5)) true true (has (word r 1) (c .keys (Rows Trnsmode))) b ks
+      (word r 1) e refl (ap (has (word r 1)) (sym k)) h
       ∙ sym (by-words ampersand t ∙ transport c stops (word r 1) (word r 2) (word r 3) (word r 4) (word r 5) (word r 6))
 
   pub attribute-row : tag r ≡ asterisk → (z : Bool) → z ≡ zeros 0 0 0 (word r 5) → (ks : List ℕ) → c .keys (Groups Footnote) ≡ ks → (b : Bool)
       → b ≡ (((codeRight 4 (word r 1) && (ltb (word r 4) 100000 && true)) && z) && has (word r 4) ks) → b ≡ rowTests c stops r
   attribute-row t z e ks k b h =
-      found ((codeRight 4 (word r 1) && (ltb (word r 4) 100000 && true))) z (zeros 0 0 0 (word r 5)) true true (has (word r 4) (c .keys (Groups Footnote))) b ks (word r 4) e refl (ap (has (word r 4)) (sym k)) h
+      found ((codeRight 4 (word r 1) && (ltb (word r 4) 100000 && true))) z (zeros 0 0 0 (word r 5)) true true
+      (has (word r 4) (c .keys (Groups Footnote))) b ks (word r 4) e refl (ap (has (word r 4)) (sym k)) h
       ∙ sym (by-words asterisk t ∙ attribute c stops (word r 1) (word r 2) (word r 3) (word r 4) (word r 5) (word r 6))
 
-  pub passed-row : tag r ≡ semicolon → (z : Bool) → z ≡ zeros (word r 2) (word r 3) (word r 4) (word r 5) → (ks : List ℕ) → c .keys (Rows Stations) ≡ ks → (b : Bool)
+  pub passed-row : tag r ≡ semicolon → (z : Bool) → z ≡ zeros (word r 2) (word r 3) (word r 4) (word r 5) → (ks : List ℕ)
+      → c .keys (Rows Stations) ≡ ks → (b : Bool)
       → b ≡ (((codeRight 7 (word r 1) && true) && z) && has (word r 1) ks) → b ≡ rowTests c stops r
   passed-row t z e ks k b h =
-      found ((codeRight 7 (word r 1) && true)) z (zeros (word r 2) (word r 3) (word r 4) (word r 5)) true true (has (word r 1) (c .keys (Rows Stations))) b ks (word r 1) e refl (ap (has (word r 1)) (sym k)) h
+      found ((codeRight 7 (word r 1) && true)) z (zeros (word r 2) (word r 3) (word r 4) (word r 5)) true true
+      (has (word r 1) (c .keys (Rows Stations))) b ks (word r 1) e refl (ap (has (word r 1)) (sym k)) h
       ∙ sym (by-words semicolon t ∙ passed c stops (word r 1) (word r 2) (word r 3) (word r 4) (word r 5) (word r 6))
 
-  pub platform-row : tag r ≡ question → (z : Bool) → z ≡ zeros (word r 2) (word r 3) (word r 4) (word r 5) → (ks : List ℕ) → c .keys (Groups Footnote) ≡ ks → (b : Bool)
+  pub platform-row : tag r ≡ question → (z : Bool) → z ≡ zeros (word r 2) (word r 3) (word r 4) (word r 5) → (ks : List ℕ)
+      → c .keys (Groups Footnote) ≡ ks → (b : Bool)
       → b ≡ (((ltb (word r 1) 100000 && true) && z) && has (word r 1) ks) → b ≡ rowTests c stops r
   platform-row t z e ks k b h =
-      found ((ltb (word r 1) 100000 && true)) z (zeros (word r 2) (word r 3) (word r 4) (word r 5)) true true (has (word r 1) (c .keys (Groups Footnote))) b ks (word r 1) e refl (ap (has (word r 1)) (sym k)) h
+      found ((ltb (word r 1) 100000 && true)) z (zeros (word r 2) (word r 3) (word r 4) (word r 5)) true true
+      (has (word r 1) (c .keys (Groups Footnote))) b ks (word r 1) e refl (ap (has (word r 1)) (sym k)) h
       ∙ sym (by-words question t ∙ platform c stops (word r 1) (word r 2) (word r 3) (word r 4) (word r 5) (word r 6))
 
   -- the times of a row that is a stop
@@ -97,18 +105,23 @@ module _ (c : Context) (stops : ℕ) (r : Row) (n : length r ≡ rowWidth Timetb
   by-time x e = ap (blockMeaning stops) (seven r n) ∙ ap (λ (y : ℕ). blockMeaning stops (sevenOf y r)) e
 
   pub interval-row : tag r ≡ plus → (z : Bool) → z ≡ zeros 0 0 (word r 4) (word r 5) → (m : Bool) → m ≡ blockMeaning stops r → (ks : List ℕ)
-      → c .keys (Rows Stations) ≡ ks → (b : Bool) → b ≡ (((codeRight 7 (word r 1) && (ltb (word r 2) 10000 && (ltb (word r 3) 10000 && true))) && z) && (m && has (word r 1) ks)) → b ≡ rowTests c stops r
+      → c .keys (Rows Stations) ≡ ks → (b : Bool)
+      → b ≡ (((codeRight 7 (word r 1) && (ltb (word r 2) 10000 && (ltb (word r 3) 10000 && true))) && z) && (m && has (word r 1) ks))
+      → b ≡ rowTests c stops r
   interval-row t z e m f ks k b h =
-      found (codeRight 7 (word r 1) && (ltb (word r 2) 10000 && (ltb (word r 3) 10000 && true))) z (zeros 0 0 (word r 4) (word r 5)) m (blockMeaning stops (sevenOf plus r)) (has (word r 1) (c .keys (Rows Stations))) b ks (word r 1)
+      found (codeRight 7 (word r 1) && (ltb (word r 2) 10000 && (ltb (word r 3) 10000 && true))) z (zeros 0 0 (word r 4) (word r 5)) m
+      (blockMeaning stops (sevenOf plus r)) (has (word r 1) (c .keys (Rows Stations))) b ks (word r 1)
       e (f ∙ by-time plus t) (ap (has (word r 1)) (sym k)) h
       ∙ sym (by-words plus t ∙ times c stops (word r 1) (word r 2) (word r 3) (word r 4) (word r 5) (word r 6))
 
   module _ (h1 : tag r ≡ hash → ⊥) (h2 : tag r ≡ percent → ⊥) (h3 : tag r ≡ dash → ⊥) (h4 : tag r ≡ ampersand → ⊥)
       (h5 : tag r ≡ asterisk → ⊥) (h6 : tag r ≡ plus → ⊥) (h7 : tag r ≡ semicolon → ⊥) (h8 : tag r ≡ question → ⊥) where
     pub plain-row : (z : Bool) → z ≡ zeros 0 (word r 3) (word r 4) (word r 5) → (m : Bool) → m ≡ blockMeaning stops r → (ks : List ℕ)
-        → c .keys (Rows Stations) ≡ ks → (b : Bool) → b ≡ (((codeRight 7 (word r 1) && (ltb (word r 2) 10000 && true)) && z) && (m && has (word r 1) ks)) → b ≡ rowTests c stops r
+        → c .keys (Rows Stations) ≡ ks → (b : Bool)
+        → b ≡ (((codeRight 7 (word r 1) && (ltb (word r 2) 10000 && true)) && z) && (m && has (word r 1) ks)) → b ≡ rowTests c stops r
     plain-row z e m f ks k b h =
-        found (codeRight 7 (word r 1) && (ltb (word r 2) 10000 && true)) z (zeros 0 (word r 3) (word r 4) (word r 5)) m (blockMeaning stops (sevenOf (tag r) r)) (has (word r 1) (c .keys (Rows Stations))) b ks (word r 1)
+        found (codeRight 7 (word r 1) && (ltb (word r 2) 10000 && true)) z (zeros 0 (word r 3) (word r 4) (word r 5)) m
+        (blockMeaning stops (sevenOf (tag r) r)) (has (word r 1) (c .keys (Rows Stations))) b ks (word r 1)
         e (f ∙ by-time (tag r) refl) (ap (has (word r 1)) (sym k)) h
         ∙ sym (by-words (tag r) refl ∙ plain c stops (word r 1) (word r 2) (word r 3) (word r 4) (word r 5) (word r 6) (tag r) h1 h2 h3 h4 h5 h6 h7 h8)
 

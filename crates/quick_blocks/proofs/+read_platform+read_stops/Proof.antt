@@ -66,7 +66,8 @@ pub +read-platform+read-stops-spec : {M : Type 1} → statement M
     let a = s .args in
     let d = s .pre .1 .1 in
     let h = s .pre .1 .0 in
-    let x = driving-start (a .form) (keysFrom (a .form) (a .counts) (a .companies .now) (a .modes .now) (a .stations .now) (a .footnotes .now)) _ (a .n) (a .k) _ _ _ _ _ d in
+    let x = driving-start (a .form) (keysFrom (a .form) (a .counts) (a .companies .now) (a .modes .now) (a .stations .now) (a .footnotes .now)) _
+    (a .n) (a .k) _ _ _ _ _ d in
     let p = y .put-line .ensures .stepped _ _ (c .before .before .next .given .1) in (
       omega (arith, s .pre .0, h, goes-further _ _ _ _ _ _ _ _ _ _ d _ _ _ _ x _ _ _ h p, p .line, p .nexts),
       drivable _ _ _ _ _ _ _ _ _ _ d _ _ _ _ (driving-next _ _ _ _ _ _ _ _ _ _ d _ _ _ _ x _ _ _ h p),
@@ -76,7 +77,8 @@ pub +read-platform+read-stops-spec : {M : Type 1} → statement M
     let s = y .before .before .before .before .before .before .before .before .before .before in
     let a = s .args in
     let d = s .pre .1 .1 in
-    let x = driving-start (a .form) (keysFrom (a .form) (a .counts) (a .companies .now) (a .modes .now) (a .stations .now) (a .footnotes .now)) _ (a .n) (a .k) _ _ _ _ _ d in
+    let x = driving-start (a .form) (keysFrom (a .form) (a .counts) (a .companies .now) (a .modes .now) (a .stations .now) (a .footnotes .now)) _
+    (a .n) (a .k) _ _ _ _ _ d in
     drove-stuck _ _ _ _ _ _ _ _ _ _ d _ _ _ _ x _ (y .put-line .ensures .kept (c .enum-told .given .1)))
     (λ c. c .before .before .read-stops .kept .1 .1 .1 .1 .1 .1 .1 .0 ∙ c .before .before .before .before .before .before .before .before .before .put-line .kept .1 .1 .1 .1 .1 .1 .1 .1 .0)
     (λ c. let y = c .before .before .before .before .before .before .before .before .before in
@@ -84,7 +86,8 @@ pub +read-platform+read-stops-spec : {M : Type 1} → statement M
     let a = s .args in
     let d = s .pre .1 .1 in
     let h = s .pre .1 .0 in
-    let x = driving-start (a .form) (keysFrom (a .form) (a .counts) (a .companies .now) (a .modes .now) (a .stations .now) (a .footnotes .now)) _ (a .n) (a .k) _ _ _ _ _ d in
+    let x = driving-start (a .form) (keysFrom (a .form) (a .counts) (a .companies .now) (a .modes .now) (a .stations .now) (a .footnotes .now)) _
+    (a .n) (a .k) _ _ _ _ _ d in
     let p = y .put-line .ensures .stepped _ _ (c .before .before .before .before .before .next .given .1) in
     drove-on _ _ _ _ _ _ _ _ _ _ d _ _ _ _ (driving-next _ _ _ _ _ _ _ _ _ _ d _ _ _ _ x _ _ _ h p) _ _ (c .before .before .read-stops .ensures)))
     λ t. read-stops-lts.spec (of-read-stops t)
@@ -102,7 +105,8 @@ pub +read-platform+read-stops-spec : {M : Type 1} → statement M
     ))
     (λ c. c .before .before .read-platform .kept .1 .1 .1 .1 .1 .1 .1 .0 ∙ c .before .before .before .before .before .before .before .loop .inv .kept)
     (λ c. let l = c .before .before .before .before .before .before .before in
-    drove-on _ _ _ _ _ _ _ _ _ _ (l .before .before .before .before .before .before .before .before .pre .1) _ _ _ _ (l .loop .inv) _ _ (c .before .before .read-platform .ensures))
+    drove-on _ _ _ _ _ _ _ _ _ _ (l .before .before .before .before .before .before .before .before .pre .1) _ _ _ _ (l .loop .inv) _ _
+    (c .before .before .read-platform .ensures))
     (λ c. let l = c .before .before .before .before in
     let d = drivable _ _ _ _ _ _ _ _ _ _ (l .before .before .before .before .before .before .before .before .pre .1) _ _ _ _ (l .loop .inv) in
     omega (arith, d .room, l .loop .inv .kept, l .before .before .before .before .before .before .before .before .good))
@@ -113,14 +117,16 @@ pub +read-platform+read-stops-spec : {M : Type 1} → statement M
     (λ c. c .before .before .before .before .put-line .kept .1 .1 .1 .1 .1 .1 .1 .1 .0 ∙ c .before .before .before .before .before .before .before .before .before .loop .inv .kept)
     (λ c. let y = c .before .before .before .before in
     let l = y .before .before .before .before .before in
-    drove-stuck _ _ _ _ _ _ _ _ _ _ (l .before .before .before .before .before .before .before .before .pre .1) _ _ _ _ (l .loop .inv) _ (y .put-line .ensures .kept (c .enum-told .given .1)))
+    drove-stuck _ _ _ _ _ _ _ _ _ _ (l .before .before .before .before .before .before .before .before .pre .1) _ _ _ _ (l .loop .inv) _
+    (y .put-line .ensures .kept (c .enum-told .given .1)))
     (λ c. search needs)
     (λ c. let y = c .before .before .before .before .before in
     let p = y .put-line .ensures .stepped _ _ (c .before .next .given .1) in
     omega (arith, p .line, p .nexts, y .before .before .before .before .loop-test .taken))
     (λ c. let y = c .before .before .before .before .before in
     let l = y .before .before .before .before .before in
-    driving-next _ _ _ _ _ _ _ _ _ _ (l .before .before .before .before .before .before .before .before .pre .1) _ _ _ _ (l .loop .inv) _ _ _ (y .before .before .before .before .loop-test .taken)
+    driving-next _ _ _ _ _ _ _ _ _ _ (l .before .before .before .before .before .before .before .before .pre .1) _ _ _ _ (l .loop .inv) _ _ _
+    (y .before .before .before .before .loop-test .taken)
     (y .put-line .ensures .stepped _ _ (c .before .next .given .1)))
     (λ c. c .before .loop .inv .kept)
     (λ c. drove-end _ _ _ _ _ _ _ _ _ _ (c .before .before .before .before .before .before .before .before .before .pre .1) _ _ _ _ (c .before .loop .inv) (c .loop-test .left))

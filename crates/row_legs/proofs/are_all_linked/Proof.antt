@@ -122,7 +122,8 @@ returns-5 c =
     let s = l .before .before in
     let a = s .args in
     let p = l .loop .inv in
-    numbers-fail (a .t .now) (a .from) (a .to) (a .n) (p .numbers ∙ linked-none percent (a .n) (a .t .now) (l .loop .i) (a .to) (l .loop .number) (t .loop-test .left) ∙ ne-eqb (l .loop .number) (a .n) (c .if5 .taken))
+    numbers-fail (a .t .now) (a .from) (a .to) (a .n)
+    (p .numbers ∙ linked-none percent (a .n) (a .t .now) (l .loop .i) (a .to) (l .loop .number) (t .loop-test .left) ∙ ne-eqb (l .loop .number) (a .n) (c .if5 .taken))
 
 returns-6 : tie.Need-returns-6 Inv-loop μ-loop
 returns-6 c =
@@ -131,7 +132,8 @@ returns-6 c =
     let s = l .before .before in
     let a = s .args in
     let p = l .loop .inv in
-    validities-fail (a .t .now) (a .from) (a .to) (a .n) (p .validities ∙ linked-none dash (a .n) (a .t .now) (l .loop .i) (a .to) (l .loop .validity) (t .loop-test .left) ∙ ne-eqb (l .loop .validity) (a .n) (c .if6 .taken))
+    validities-fail (a .t .now) (a .from) (a .to) (a .n)
+    (p .validities ∙ linked-none dash (a .n) (a .t .now) (l .loop .i) (a .to) (l .loop .validity) (t .loop-test .left) ∙ ne-eqb (l .loop .validity) (a .n) (c .if6 .taken))
 
 returns-7 : tie.Need-returns-7 Inv-loop μ-loop
 returns-7 c =

@@ -61,7 +61,9 @@ returns-4 c =
 
 is-covered-requires-3 : tie.Need-is-covered-requires-3
 unfolding covers any
-is-covered-requires-3 c κs = let i = c .before .before .before .before in asks _ _ _ _ (i .before .before .before .before .before .pre) (ranged i) ampersand refl
+is-covered-requires-3 c κs =
+    let i = c .before .before .before .before in
+    asks _ _ _ _ (i .before .before .before .before .before .pre) (ranged i) ampersand refl
 
 returns-5 : tie.Need-returns-5
 returns-5 c =
