@@ -1,14 +1,60 @@
 //! The eleven tables of a loaded delivery, and what is shown of their rows
 //! (docs/TABLES.md). Rows are looked at only in tables that were found sound.
 
+use std::ops::{Deref, DerefMut};
+
+use memmap2::MmapMut;
+
 use crate::files::place::*;
 use crate::files::FILES;
 
 /// The words of a row, by file.
 pub const WIDTHS: [usize; FILES] = [6, 6, 6, 6, 6, 6, 14, 7, 6, 14, 7];
 
-#[derive(Clone, Default, PartialEq)]
-pub struct Tables(pub [Vec<u64>; FILES]);
+#[derive(Default)]
+pub struct Tables(pub [Words; FILES]);
+
+/// The words of a table: of this process alone, or a part of the store's file
+/// that is read where it stands. That file is replaced and never changed; what
+/// is written here to a part of it is seen by this process alone.
+pub enum Words {
+    Own(Vec<u64>),
+    Mapped(MmapMut),
+}
+
+impl Default for Words {
+    fn default() -> Words {
+        Words::Own(Vec::new())
+    }
+}
+
+impl Deref for Words {
+    type Target = [u64];
+
+    fn deref(&self) -> &[u64] {
+        match self {
+            Words::Own(words) => words,
+            // SAFETY: the mapping's own memory, as long as it is. It begins at a
+            // multiple of eight bytes of a file, so of a page, and every eight
+            // bytes are a word.
+            Words::Mapped(map) => unsafe {
+                std::slice::from_raw_parts(map.as_ptr().cast(), map.len() / size_of::<u64>())
+            },
+        }
+    }
+}
+
+impl DerefMut for Words {
+    fn deref_mut(&mut self) -> &mut [u64] {
+        match self {
+            Words::Own(words) => words,
+            // SAFETY: as above, and borrowed alone.
+            Words::Mapped(map) => unsafe {
+                std::slice::from_raw_parts_mut(map.as_mut_ptr().cast(), map.len() / size_of::<u64>())
+            },
+        }
+    }
+}
 
 /// Days of validity, as numbers DDMMYYYY.
 #[derive(Clone, Copy)]
@@ -53,15 +99,15 @@ pub struct Service<'a> {
 
 impl Tables {
     pub fn empty(lengths: &[usize; FILES]) -> Tables {
-        Tables(lengths.map(|length| vec![0; length]))
+        Tables(lengths.map(|length| Words::Own(vec![0; length])))
     }
 
     pub fn lent(&self) -> [&[u64]; FILES] {
-        self.0.each_ref().map(Vec::as_slice)
+        self.0.each_ref().map(|words| &**words)
     }
 
     pub fn lent_mut(&mut self) -> [&mut [u64]; FILES] {
-        self.0.each_mut().map(Vec::as_mut_slice)
+        self.0.each_mut().map(|words| &mut **words)
     }
 
     /// How many words of a table are in use.

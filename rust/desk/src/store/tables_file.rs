@@ -1,15 +1,20 @@
 //! The file of the eleven tables: 64-bit words, lowest byte first. A head of 28
 //! words: `calyxtab`, the version, how many amendments the tables have, eleven
 //! lengths, eleven counts of words in use, the sum of these, a 0, the sum of the
-//! head. Then the words in use; all others are zero.
+//! head. Then the tables, each in its whole length, so that they can be read
+//! where they stand. No hole is left behind the words in use: to read one may
+//! need room that a full disk does not have.
 
-use std::io::{self, ErrorKind};
+use std::fs::File;
+use std::io;
 use std::path::{Path, PathBuf};
+
+use memmap2::MmapOptions;
 
 use super::opened;
 use crate::disk::{bytes_of, read_words, sum_words, write_synced};
 use crate::files::FILES;
-use crate::tables::Tables;
+use crate::tables::{Tables, Words};
 use crate::trouble::Trouble;
 
 const HEAD: usize = 3 + 2 * FILES + 3;
@@ -26,7 +31,7 @@ pub struct Read {
 
 impl Read {
     pub fn lengths(&self) -> [usize; FILES] {
-        self.tables.0.each_ref().map(Vec::len)
+        self.tables.0.each_ref().map(|words| words.len())
     }
 }
 
@@ -68,19 +73,39 @@ pub fn read(folder: &Path) -> Result<Read, Unread> {
     if head[0] != MARK || head[1] != VERSION || head[SUM_OF_HEAD] != sum_words(&head[..SUM_OF_HEAD]) {
         return Err(DAMAGED.into());
     }
-    let mut from = size_of_val(&head) as u64;
+    let lengths: [u64; FILES] = std::array::from_fn(|place| head[3 + place]);
+    let places = places(&lengths).ok_or(Unread::from(DAMAGED))?;
+    let unread = |why: &str| Unread { why: why.into(), amendments: head[2] };
+    if file.metadata().map_err(|_| unread(NOT_READ))?.len() < places[FILES] {
+        return Err(unread(CUT_SHORT));
+    }
     let mut tables = Tables::default();
     for (place, table) in tables.0.iter_mut().enumerate() {
-        let (length, used) = (head[3 + place] as usize, head[3 + FILES + place] as usize);
-        *table = vec![0; length];
-        let words = table.get_mut(..used).ok_or(Unread::from(DAMAGED))?;
-        read_words(&file, from, words).map_err(|error| {
-            let why = if error.kind() == ErrorKind::UnexpectedEof { CUT_SHORT } else { NOT_READ };
-            Unread { why: why.into(), amendments: head[2] }
-        })?;
-        from += (used * size_of::<u64>()) as u64;
+        *table = words_of(&file, places[place], lengths[place] as usize).map_err(|_| unread(NOT_READ))?;
     }
     Ok(Read { tables, amendments: head[2], sum: head[SUM] })
+}
+
+/// Where each table begins in the file, and where the last ends, in bytes.
+fn places(lengths: &[u64; FILES]) -> Option<[u64; FILES + 1]> {
+    let mut places = [(HEAD * size_of::<u64>()) as u64; FILES + 1];
+    for (place, length) in lengths.iter().enumerate() {
+        let bytes = length.checked_mul(size_of::<u64>() as u64)?;
+        places[place + 1] = places[place].checked_add(bytes)?;
+    }
+    Some(places)
+}
+
+fn words_of(file: &File, from: u64, length: usize) -> io::Result<Words> {
+    if length == 0 || cfg!(target_endian = "big") {
+        let mut words = vec![0; length];
+        read_words(file, from, &mut words)?;
+        return Ok(Words::Own(words));
+    }
+    // SAFETY: a store's file of tables is put into its place when it is whole,
+    // and never written to again.
+    let map = unsafe { MmapOptions::new().offset(from).len(length * size_of::<u64>()).map_copy(file)? };
+    Ok(Words::Mapped(map))
 }
 
 /// Writes the tables into a file and waits until the disk has it.
@@ -93,7 +118,7 @@ pub fn write(path: &Path, tables: &Tables, amendments: u64, written: impl FnMut(
     }
     head[SUM] = sum(tables);
     head[SUM_OF_HEAD] = sum_words(&head[..SUM_OF_HEAD]);
-    let words: Vec<_> = (0..FILES).map(|place| bytes_of(&tables.0[place][..used[place]])).collect();
+    let words = tables.0.each_ref().map(|table| bytes_of(table));
     let head = bytes_of(&head);
     let mut parts: Vec<&[u8]> = vec![&head];
     parts.extend(words.iter().map(|words| &words[..]));

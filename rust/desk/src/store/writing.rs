@@ -183,7 +183,7 @@ fn write_delivery(
     let make = |path: &PathBuf| fs::create_dir(path).map_err(|error| Trouble::writing(path, &error));
     [&folder, &files, &journal].into_iter().try_for_each(make)?;
 
-    let words: usize = (0..NAMES.len()).map(|file| tables.used(file)).sum();
+    let words: usize = tables.lent().iter().map(|table| table.len()).sum();
     let bar = progress.bytes("saving", contents.bytes() + 8 * words as u64);
     for (name, text) in NAMES.iter().zip(&texts.0).filter(|(_, text)| !text.is_empty()) {
         bar.at(name);
@@ -213,7 +213,7 @@ impl Store {
 
     fn write_new_tables(&self, progress: &Progress) -> Result<(), Trouble> {
         let path = self.new_tables();
-        let words: usize = (0..NAMES.len()).map(|file| self.tables.used(file)).sum();
+        let words: usize = self.tables.lent().iter().map(|table| table.len()).sum();
         let bar = progress.bytes("saving", 8 * words as u64);
         let written = tables_file::write(&path, &self.tables, self.amendments, |more| bar.more(more));
         written.inspect_err(|_| drop(fs::remove_file(&path)))
