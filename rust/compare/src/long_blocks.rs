@@ -1,5 +1,5 @@
 //! Refusal 1 of an amendment: blocks with which the edited text has the largest
-//! length, and a byte more.
+//! length, a byte more, and more than that.
 //!
 //! Tables of a text of that length have millions of rows; a long block needs
 //! small ones alone, and the rows that stay are counted with it.
@@ -19,6 +19,8 @@ const CR_LF: &[u8] = b"\r\n";
 /// Lines of room beside those that the delivery has, more than any of its
 /// services has; with twice as many a block has more than room.
 const ROOM: usize = 1_000;
+/// So many blocks make the text too long, by a byte and more.
+const LONGER_BLOCKS: usize = 30;
 
 impl Desk<'_> {
     /// Amends a service with every record before and behind it, which are counted
@@ -39,12 +41,18 @@ impl Desk<'_> {
         let lines = CR_LF.repeat(ROOM * 2);
         let end = longer.block.len();
         longer.block[end - lines.len()..].copy_from_slice(&lines);
-        self.compare_long("a byte more", held, &longer, in_timetbls(1, 0, 0))?;
+        for more in 0..LONGER_BLOCKS {
+            // One blank more each time, before the lines at the end.
+            if more > 0 {
+                longer.block.insert(end - lines.len(), b' ');
+            }
+            self.compare_long("too long", held, &longer, in_timetbls(1, 0, 0))?;
+        }
 
         let is_unheld = |service: &u64| lines_of(*service, held.timetbls()).is_none();
         longer.service = (0..).find(is_unheld).expect("a service that is not held");
         longer.block[1..9].copy_from_slice(format!("{:08}", longer.service).as_bytes());
-        self.compare_long("a byte more, not held", held, &longer, Answer::refused(12, 0, 0, 0))
+        self.compare_long("too long, not held", held, &longer, Answer::refused(12, 0, 0, 0))
     }
 
     fn compare_long(

@@ -52,7 +52,7 @@ const FIXED_AMENDMENTS: Range<u64> = 0..700;
 const AMENDMENTS_OF_TODAY: u64 = 70;
 /// Every outcome of an amendment and every way to make one is met so often.
 const AMENDMENTS_OFTEN: usize = 30;
-/// The same of blocks of the largest length, which take a second each.
+/// The same of blocks of the largest length, beside those that are too long.
 const LONG_BLOCKS_OFTEN: usize = 1;
 /// Of every hundred deliveries from the generator so many are accepted.
 const ACCEPTED_IN_100: usize = 30;
@@ -168,6 +168,9 @@ fn compare_amendments(comparison: &mut Comparison) -> io::Result<Vec<String>> {
         .chain(rare_outcomes(&desk.long_blocks, LONG_BLOCKS_OFTEN))
         .chain(rare_ways(&desk))
         .collect();
+    if desk.long_blocks.of("too long: refused 1") < AMENDMENTS_OFTEN {
+        complaints.push("Refusal 1 of an amendment was met too seldom.".into());
+    }
 
     let today = seeds_of_today(AMENDMENTS_OF_TODAY);
     println!("Seeds of today: compare --seed {} --count {AMENDMENTS_OF_TODAY}", today.start);

@@ -200,7 +200,7 @@ pub const OF_AMENDMENTS: &[&str] = &[
 
 /// What amendments by blocks near the largest length of a file come to.
 pub const OF_LONG_BLOCKS: &[&str] =
-    &["the largest length: refused 4", "a byte more: refused 1", "a byte more, not held: refused 12"];
+    &["the largest length: refused 4", "too long: refused 1", "too long, not held: refused 12"];
 
 /// Counts of outcomes, of which some are expected.
 #[derive(Clone, Debug)]
