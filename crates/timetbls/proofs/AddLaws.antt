@@ -29,7 +29,7 @@ use Rattle.tables.proofs.Filled.{joined-append, rows-in-fill, fill-front, fill-
 use Rattle.fresh_keys.specs.declared.KeyRun.{KeyRun}
 use Rattle.keys.specs.Lookup.{keysIn}
 use Rattle.fresh_keys.proofs.Runs.{run-next}
-use Rattle.service_marks.proofs.MarkLaws.{marked-next}
+use Rattle.marks.proofs.MarkLaws.{marked-next}
 use Rattle.keys.proofs.Fills.{keys-append}
 use Rattle.legs.proofs.RowLaws.{block-lines}
 use Rattle.blocks.specs.declared.Checked.{Checked}

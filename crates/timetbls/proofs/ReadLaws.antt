@@ -25,7 +25,7 @@ use Rattle.tables.proofs.Filled.{rows-in-fill}
 use Rattle.fresh_keys.specs.declared.KeyRun.{KeyRun}
 use Rattle.keys.specs.Lookup.{keysIn}
 use Rattle.fresh_keys.specs.Runs.{noKeys}
-use Rattle.service_marks.specs.Marks.{Marked}
+use Rattle.marks.specs.Marks.{Marked}
 use Rattle.references.specs.declared.BlockCounts.{BlockCounts}
 use Rattle.references.specs.Agree.{BlockKeys, BlockKeysAmong}
 use Rattle.fresh_keys.proofs.Runs.{run-rises}

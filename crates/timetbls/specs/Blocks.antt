@@ -21,7 +21,7 @@ use Rattle.iff_rules.specs.Load.{blockVerdict, serviceOf, strayVerdict, timetbl
 use Rattle.fresh_keys.specs.declared.KeyRun.{KeyRun}
 use Rattle.keys.specs.Lookup.{keysIn}
 use Rattle.fresh_keys.specs.Runs.{noKeys, runOf, stepRun}
-use Rattle.service_marks.specs.Marks.{withMarks, Marked}
+use Rattle.marks.specs.Marks.{withMarks, Marked}
 use Rattle.references.specs.declared.BlockCounts.{BlockCounts}
 use Rattle.references.specs.Agree.{BlockKeys, BlockKeysAmong}
 use Rattle.blocks.specs.declared.Checked.{Checked}

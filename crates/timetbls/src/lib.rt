@@ -15,7 +15,7 @@ ghost use Rattle.references.specs.Agree.{BlockKeys};
 ghost use Rattle.keys.specs.Lookup.{keysIn};
 ghost use Rattle.reading.specs.Reading.{Ready, FileRead};
 ghost use Rattle.fresh_keys.specs.Runs.{runOf};
-ghost use Rattle.service_marks.specs.Marks.{slots, Marked};
+ghost use Rattle.marks.specs.Marks.{slots, Marked};
 ghost use Rattle.timetbls.specs.Blocks.{Clean, NextBlock, StrayTold, BlockPlaced, BlockTried, Remembered, Addable, BlockAdded};
 ghost use Rattle.timetbls.specs.Blocks.{BlocksReady, BlocksAdded, AfterFirst, BlocksRead};
 
@@ -150,7 +150,7 @@ fn try_block(
         (now (companies .entry)) (now (modes .entry)) (now (stations .entry)) (now (footnotes .entry)) row r ⌝ }
 {
     let service = blocks::service_of(block);
-    let fresh = service_marks::is_fresh_service(marks, run, t, service);
+    let fresh = marks::is_fresh(iff::File::Timetbls, marks, run, t, service);
     place_block(
         block,
         form,
@@ -172,7 +172,7 @@ fn after_block(run: fresh_keys::KeyRun, marks: &mut [u8], block: &[u8]) -> fresh
     ensures { λ r. ⌜ ((form : Form) → Remembered run (now (marks .entry)) (serviceOf form (asBlock (now (block .entry)))) (now (marks .exit)) r) ⌝ }
 {
     let service = blocks::service_of(block);
-    service_marks::mark(marks, service);
+    marks::mark(marks, service);
     fresh_keys::next_run(run, service)
 }
 

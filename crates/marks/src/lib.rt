@@ -1,13 +1,14 @@
-// Marks of the services that came so far, by which nearly every new one is told to be new without a search, in whatever order they come.
+// Marks of the keys that came so far, or of other numbers, by which nearly every new one is told to be new without a search, in whatever order they
+// come.
 ghost use mathlib.Core.Path.{_≡_};
-ghost use mathlib.Core.Bool.{not};
-ghost use Prim.Native.Nat.{_<_};
+ghost use mathlib.Core.Bool.{not, true, false};
+ghost use mathlib.Core.List.{List};
+ghost use Prim.Native.Nat.{ℕ, _<_};
 ghost use lib.ListN.{length};
 ghost use Rattle.iff.specs.Lists.{has};
-ghost use Rattle.iff.specs.declared.File.the-variants.{Timetbls};
 ghost use Rattle.keys.specs.Lookup.{keysIn};
 ghost use Rattle.fresh_keys.specs.Runs.{runOf};
-ghost use Rattle.service_marks.specs.Marks.{slots, slotOf, otherOf, printOf, otherPrint, mixed, shows, withMarks, Marked};
+ghost use Rattle.marks.specs.Marks.{slots, slotOf, otherOf, printOf, otherPrint, mixed, shows, withMarks, Marked};
 
 // Where a key's marks stand.
 fn slot(key: u64) -> usize
@@ -69,10 +70,10 @@ pub fn mark(marks: &mut [u8], key: u64)
     marks[o] = mix(marks[o], other_print(key));
 }
 
-// A service that the table does not have yet. One that lacks a mark is new whatever the order of the services, and without a search.
-pub fn is_fresh_service(marks: &[u8], run: fresh_keys::KeyRun, t: &[u64], key: u64) -> bool
-    requires { ⌜ (run ≡ runOf (keysIn Timetbls (now t))) × Marked (now marks) (keysIn Timetbls (now t)) ⌝ }
-    ensures { λ r. ⌜ r ≡ not (has key (keysIn Timetbls (now (t .entry)))) ⌝ }
+// No number came that lacks a mark here: neither a key nor whatever else a number stands for.
+pub fn is_unmarked(marks: &[u8], key: u64) -> bool
+    requires { ⌜ length (now marks) ≡ slots ⌝ }
+    ensures { λ r. ⌜ ((keys : List ℕ) → Marked (now (marks .entry)) keys → r ≡ true → has key keys ≡ false) ⌝ }
 {
     let k = slot(key);
     if !does_show(marks[k], print_of(key)) {
@@ -82,5 +83,16 @@ pub fn is_fresh_service(marks: &[u8], run: fresh_keys::KeyRun, t: &[u64], key: u
     if !does_show(marks[o], other_print(key)) {
         return true;
     }
-    fresh_keys::is_fresh(iff::File::Timetbls, run, t, key)
+    false
+}
+
+// A key that the table does not have yet. One that lacks a mark is new whatever the order of the keys, and without a search.
+pub fn is_fresh(file: iff::File, marks: &[u8], run: fresh_keys::KeyRun, t: &[u64], key: u64) -> bool
+    requires { ⌜ (run ≡ runOf (keysIn file (now t))) × Marked (now marks) (keysIn file (now t)) ⌝ }
+    ensures { λ r. ⌜ r ≡ not (has key (keysIn file (now (t .entry)))) ⌝ }
+{
+    if is_unmarked(marks, key) {
+        return true;
+    }
+    fresh_keys::is_fresh(file, run, t, key)
 }

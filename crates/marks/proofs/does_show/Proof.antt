@@ -1,8 +1,8 @@
--- `service_marks::does_show` meets its contract. Assumes nothing.
+-- `marks::does_show` meets its contract. Assumes nothing.
 use borrow.Author.Tests.{eq-eqb, ne-eqb}
-use Rattle.service_marks.specs.Marks.{shows}
-use Rattle.service_marks.proofs.does_show.Statement.{statement}
-use Rattle.service_marks.proofs.does_show.Tie as tie
+use Rattle.marks.specs.Marks.{shows}
+use Rattle.marks.proofs.does_show.Statement.{statement}
+use Rattle.marks.proofs.does_show.Tie as tie
 
 returns : tie.Need-returns
 unfolding shows

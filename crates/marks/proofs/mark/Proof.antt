@@ -1,10 +1,10 @@
--- `service_marks::mark` meets its contract. Assumes nothing.
+-- `marks::mark` meets its contract. Assumes nothing.
 use native.Mathlib.Omega.{arith}
 use borrow.Author.Needs.{needs}
 use lib.ListN.{length-set}
-use Rattle.service_marks.proofs.MarkLaws.{both-put}
-use Rattle.service_marks.proofs.mark.Statement.{statement}
-use Rattle.service_marks.proofs.mark.Tie as tie
+use Rattle.marks.proofs.MarkLaws.{both-put}
+use Rattle.marks.proofs.mark.Statement.{statement}
+use Rattle.marks.proofs.mark.Tie as tie
 
 slice-read-mix-2 : tie.Need-slice-read-mix-2
 slice-read-mix-2 c =

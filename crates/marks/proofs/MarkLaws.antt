@@ -8,7 +8,7 @@ use borrow.Author.Tests.{eqb-true, eq-eqb, ne-eqb}
 use lib.Dec.{eqb}
 use lib.ListN.{length, getD, set, replicate, length-set, length-replicate}
 use Rattle.iff.specs.Lists.{any, has}
-use Rattle.service_marks.specs.Marks.{slots, slotOf, otherOf, printOf, otherPrint, several, mixed, shows, withMark, withMarks, Marked}
+use Rattle.marks.specs.Marks.{slots, slotOf, otherOf, printOf, otherPrint, several, mixed, shows, withMark, withMarks, Marked}
 
 -- before the first key there are no marks
 pub none-marked : Marked (replicate slots 0) []
@@ -22,16 +22,16 @@ none-marked =
 
 -- a key that lacks a mark that all keys have has not come
 pub unmarked : (marks keys : List ℕ) (k at print : ℕ) → (has k keys ≡ true → shows (getD marks at 0) print ≡ true)
-    → shows (getD marks at 0) print ≡ false → true ≡ not (has k keys)
+    → shows (getD marks at 0) print ≡ false → has k keys ≡ false
 unmarked marks keys k at print m z = go (has k keys) refl
   where
-    go : (b : Bool) → has k keys ≡ b → true ≡ not (has k keys)
+    go : (b : Bool) → has k keys ≡ b → has k keys ≡ false
     go true e = absurd (false≢true (sym z ∙ m e))
-    go false e = rw e
+    go false e = e
 
 -- the same where the slot and the print were computed
 pub not-shown : (marks keys : List ℕ) (k at print a p : ℕ) → a ≡ at → p ≡ print → (has k keys ≡ true → shows (getD marks at 0) print ≡ true)
-    → (r : Bool) → r ≡ shows (getD marks a 0) p → r ≡ false → true ≡ not (has k keys)
+    → (r : Bool) → r ≡ shows (getD marks a 0) p → r ≡ false → has k keys ≡ false
 not-shown marks keys k at print a p i j m r e f = unmarked marks keys k at print m (rw (← i, ← j) (sym e ∙ f))
 
 pub both-put : (marks : List ℕ) (k a p m b q n : ℕ) → a ≡ slotOf k → p ≡ printOf k → m ≡ mixed (getD marks a 0) p
@@ -98,6 +98,23 @@ last-one (x ∷ keys) k j e f = go (eqb j x) e f (last-one keys k j)
         → (has j (keys ++ (k ∷ [])) ≡ true → has j keys ≡ false → j ≡ k) → j ≡ k
     go true e f ih = absurd (false≢true (sym f))
     go false e f ih = ih e f
+
+-- marks of more harm none of those that are there
+module _ (marks keys : List ℕ) (k : ℕ) (m : Marked marks keys) where
+  abbrev with : List ℕ
+  with = withMark marks (slotOf k) (printOf k)
+
+  pub still-marked : Marked (withMarks marks k) keys
+  still-marked =
+      record {
+        wide =
+            length-set with (otherOf k) (mixed (getD with (otherOf k) 0) (otherPrint k))
+            ∙ (length-set marks (slotOf k) (mixed (getD marks (slotOf k) 0) (printOf k)) ∙ m .wide);
+        one = λ j e. marked-still with (otherOf k) (otherPrint k) (slotOf j) (printOf j) (omega arith)
+            (marked-still marks (slotOf k) (printOf k) (slotOf j) (printOf j) (omega arith) (m .one j e));
+        other = λ j e. marked-still with (otherOf k) (otherPrint k) (otherOf j) (otherPrint j) (omega arith)
+            (marked-still marks (slotOf k) (printOf k) (otherOf j) (otherPrint j) (omega arith) (m .other j e));
+      }
 
 -- one key more, and its marks
 module _ (marks keys : List ℕ) (k : ℕ) (m : Marked marks keys) where

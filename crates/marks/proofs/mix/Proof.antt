@@ -1,8 +1,8 @@
--- `service_marks::mix` meets its contract. Assumes nothing.
+-- `marks::mix` meets its contract. Assumes nothing.
 use borrow.Author.Tests.{eq-eqb, ne-eqb}
-use Rattle.service_marks.specs.Marks.{mixed}
-use Rattle.service_marks.proofs.mix.Statement.{statement}
-use Rattle.service_marks.proofs.mix.Tie as tie
+use Rattle.marks.specs.Marks.{mixed}
+use Rattle.marks.proofs.mix.Statement.{statement}
+use Rattle.marks.proofs.mix.Tie as tie
 
 returns : tie.Need-returns
 unfolding mixed
