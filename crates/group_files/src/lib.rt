@@ -145,7 +145,7 @@ fn add_placed(
     )
 }
 
-// The lines of any file of groups, with the rows in use of the other tables counted before the first, and not again.
+// The lines of any file of groups, with the rows in use of the other tables counted before the first, and not again; those of the services are known.
 fn read_groups(
     file: GroupFile,
     form: Form,
@@ -157,15 +157,16 @@ fn read_groups(
     stations: &[u64],
     services: &[u64],
     xfootnotes: &[u64],
+    service_rows: usize,
 ) -> RowsRead
     requires { ⌜ GroupsBegun file (now text) from (now t) ⌝ }
     ensures { λ r. ⌜ RowsDone (Groups file) form
-        (λ c. GroupKeys c (now (companies .entry)) (now (modes .entry)) (now (stations .entry)) (now (services .entry))
+        (λ c. GroupKeys c «service_rows» (now (companies .entry)) (now (modes .entry)) (now (stations .entry)) (now (services .entry))
         (now (xfootnotes .entry)))
         (λ c. groupsVerdict c file (lines (drop from (now (text .entry))))) (firstIn file (now (t .entry)))
         (map (rowOf form (Groups file)) (lines (drop from (now (text .entry))))) (now (t .entry)) (now (t .exit)) r ⌝ }
 {
-    let counts = references::count_for_groups(companies, modes, stations, services, xfootnotes);
+    let counts = references::count_for_groups(companies, modes, stations, service_rows, xfootnotes);
     if let GroupFile::Changes = file {
         return add_placed(
             file,
@@ -198,7 +199,8 @@ fn read_groups(
     )
 }
 
-// A whole file of groups, after a verdict on what came before it: a fault is handed on, and an absent file has none.
+// A whole file of groups, after a verdict on what came before it: a fault is handed on, and an absent file has none. Services are looked up in the
+// first `service_rows` rows of their table, which a caller who has read them has counted.
 pub fn read_group_file(
     file: GroupFile,
     v: Verdict,
@@ -211,10 +213,11 @@ pub fn read_group_file(
     stations: &[u64],
     services: &[u64],
     xfootnotes: &[u64],
+    service_rows: usize,
 ) -> Verdict
     requires { ⌜ (fine v ≡ true → Ready (Groups file) (now text) (now t)) ⌝ }
     ensures { λ r. ⌜ FileRead (Groups file) form
-        (λ c. GroupKeys c (now (companies .entry)) (now (modes .entry)) (now (stations .entry)) (now (services .entry))
+        (λ c. GroupKeys c «service_rows» (now (companies .entry)) (now (modes .entry)) (now (stations .entry)) (now (services .entry))
         (now (xfootnotes .entry)))
         (now (header .entry)) (now (text .entry)) v (now (t .entry)) (now (t .exit)) r ⌝ }
 {
@@ -238,6 +241,7 @@ pub fn read_group_file(
                         stations,
                         services,
                         xfootnotes,
+                        service_rows,
                     ) {
                         RowsRead::Stopped(r, p) => Verdict::Fault(r, p),
                         RowsRead::AllRead(rises) => {

@@ -28,12 +28,12 @@ pub record StationKeys (c : Context) (cy zo : List ℕ) : Type 0 where
   pub countries : c .keys (Rows Country) ≡ keysIn (Rows Country) cy
   pub zones : c .keys (Groups Timezone) ≡ keysIn (Groups Timezone) zo
 
--- what a row of any file of groups names
-pub record GroupKeys (c : Context) (co mo st se xf : List ℕ) : Type 0 where
+-- what a row of any file of groups names; services among the first n rows of their table, which its reader has counted
+pub record GroupKeys (c : Context) (n : ℕ) (co mo st se xf : List ℕ) : Type 0 where
   pub companies : c .keys (Rows Company) ≡ keysIn (Rows Company) co
   pub modes : c .keys (Rows Trnsmode) ≡ keysIn (Rows Trnsmode) mo
   pub stations : c .keys (Rows Stations) ≡ keysIn (Rows Stations) st
-  pub services : c .keys Timetbls ≡ keysIn Timetbls se
+  pub services : c .keys Timetbls ≡ keysAmong Timetbls n se
   pub xfootnotes : c .keys (Groups Xfootnote) ≡ keysIn (Groups Xfootnote) xf
 
 -- THE SAME AMONG THE FIRST ROWS, so many of each table as were counted

@@ -9,7 +9,8 @@ use iff::tags;
 use iff::words;
 ghost use mathlib.Core.Path.{_≡_};
 ghost use mathlib.Core.Bool.{true, _&&_, _||_};
-ghost use Prim.Native.Nat.{_≤_};
+ghost use mathlib.Core.List.{List};
+ghost use Prim.Native.Nat.{ℕ, _≤_};
 ghost use lib.Dec.{eqb};
 ghost use lib.ListN.{length};
 ghost use Rattle.iff.specs.Lists.{has};
@@ -68,24 +69,23 @@ pub fn count_for_blocks(
     }
 }
 
-// Counts those, likewise.
+// Counts those, likewise, but for the services': TIMETBLS is by far the largest table, and its rows were counted as they were read.
 pub fn count_for_groups(
     companies: &[u64],
     modes: &[u64],
     stations: &[u64],
-    services: &[u64],
+    service_rows: usize,
     xfootnotes: &[u64],
 ) -> GroupCounts
-    ensures { λ r. ⌜ ((c : Context)
-        → GroupKeys c (now (companies .entry)) (now (modes .entry)) (now (stations .entry)) (now (services .entry)) (now (xfootnotes .entry))
-        → GroupKeysAmong c r (now (companies .entry)) (now (modes .entry)) (now (stations .entry)) (now (services .entry))
-        (now (xfootnotes .entry))) ⌝ }
+    ensures { λ r. ⌜ ((c : Context) (se : List ℕ)
+        → GroupKeys c «service_rows» (now (companies .entry)) (now (modes .entry)) (now (stations .entry)) se (now (xfootnotes .entry))
+        → GroupKeysAmong c r (now (companies .entry)) (now (modes .entry)) (now (stations .entry)) se (now (xfootnotes .entry))) ⌝ }
 {
     GroupCounts {
         companies: keys::used_rows(File::Rows(RowFile::Company), companies),
         modes: keys::used_rows(File::Rows(RowFile::Trnsmode), modes),
         stations: keys::used_rows(File::Rows(RowFile::Stations), stations),
-        services: keys::used_rows(File::Timetbls, services),
+        services: service_rows,
         xfootnotes: keys::used_rows(File::Groups(GroupFile::Xfootnote), xfootnotes),
     }
 }

@@ -13,16 +13,30 @@ ghost use Rattle.iff_rules.specs.Load.{serviceOf};
 ghost use Rattle.iff.specs.Refusals.{fine};
 ghost use Rattle.references.specs.Agree.{BlockKeys};
 ghost use Rattle.keys.specs.Lookup.{keysIn};
-ghost use Rattle.reading.specs.Reading.{Ready, FileRead};
+ghost use Rattle.reading.specs.Reading.{Ready};
 ghost use Rattle.fresh_keys.specs.Runs.{runOf};
 ghost use Rattle.marks.specs.Marks.{slots, Marked};
 ghost use Rattle.timetbls.specs.Blocks.{Clean, NextBlock, StrayTold, BlockPlaced, BlockTried, Remembered, Addable, BlockAdded};
-ghost use Rattle.timetbls.specs.Blocks.{BlocksReady, BlocksAdded, AfterFirst, BlocksRead};
+ghost use Rattle.timetbls.specs.Blocks.{BlocksReady, BlocksAdded, AfterFirst, BlocksRead, TimetblsDone};
 
 // What became of a block: what is remembered of the services with it, and where the next block's rows go; or why it is refused, and at which line.
 pub enum BlockPut {
     Kept(fresh_keys::KeyRun, usize),
     Faulty(iff::Reason, u64),
+}
+
+// What became of all of them: whether the services rise, how many rows the table has with them, and how many services; or the first fault.
+pub enum BlocksPut {
+    All(bool, usize, u64),
+    Refused(iff::Reason, iff::Place),
+}
+
+// What became of the file, and how many rows and services its table has where there is no fault: they are counted as they are read, so that no later
+// reader goes through the table for them.
+pub struct TimetblsRead {
+    pub verdict: iff::Verdict,
+    pub rows: usize,
+    pub services: u64,
 }
 
 // BLOCKS
@@ -230,7 +244,7 @@ fn add_blocks(
     stations: &[u64],
     footnotes: &[u64],
     places: &[u32],
-) -> reading::RowsRead
+) -> BlocksPut
     requires { ⌜ BlocksReady (now text) from (now t) (now marks) ⌝ }
     ensures { λ r. ⌜ BlocksAdded form (now (text .entry)) from counts
         (now (companies .entry)) (now (modes .entry)) (now (stations .entry)) (now (footnotes .entry)) (now (t .entry)) (now (t .exit)) r ⌝ }
@@ -258,7 +272,7 @@ fn add_blocks(
         ) {
             BlockPut::Faulty(why, line) => {
                 let place = iff::Place::At(iff::File::Timetbls, ordinal, line);
-                return reading::RowsRead::Stopped(why, place);
+                return BlocksPut::Refused(why, place);
             }
             BlockPut::Kept(with, behind) => {
                 at = next;
@@ -268,7 +282,7 @@ fn add_blocks(
             }
         }
     }
-    reading::RowsRead::AllRead(run.rises)
+    BlocksPut::All(run.rises, row, done)
 }
 
 // Lines before the first `#` belong to no block: the first of them is refused, by its own letter.
@@ -303,7 +317,7 @@ pub fn read_blocks(
     modes: &[u64],
     stations: &[u64],
     footnotes: &[u64],
-) -> reading::RowsRead
+) -> BlocksPut
     requires { ⌜ AfterFirst (now text) from (now t) ⌝ }
     ensures { λ r. ⌜ BlocksRead form (now (text .entry)) from
         (now (companies .entry)) (now (modes .entry)) (now (stations .entry)) (now (footnotes .entry)) (now (t .entry)) (now (t .exit)) r ⌝ }
@@ -311,7 +325,7 @@ pub fn read_blocks(
     match stray_test(text, from) {
         iff::Test::Fails(why) => {
             let place = iff::Place::At(iff::File::Timetbls, 0, 2);
-            reading::RowsRead::Stopped(why, place)
+            BlocksPut::Refused(why, place)
         }
         iff::Test::Passes => {
             let counts = references::count_for_blocks(companies, modes, stations, footnotes);
@@ -369,29 +383,46 @@ pub fn read_timetbls(
     modes: &[u64],
     stations: &[u64],
     footnotes: &[u64],
-) -> iff::Verdict
+) -> TimetblsRead
     requires { ⌜ (fine v ≡ true → Ready Timetbls (now text) (now t)) ⌝ }
-    ensures { λ r. ⌜ FileRead Timetbls form
+    ensures { λ r. ⌜ TimetblsDone form
         (λ c. BlockKeys c (now (companies .entry)) (now (modes .entry)) (now (stations .entry)) (now (footnotes .entry)))
         (now (header .entry)) (now (text .entry)) v (now (t .entry)) (now (t .exit)) r ⌝ }
 {
     match v {
-        iff::Verdict::Fault(r, p) => iff::Verdict::Fault(r, p),
+        iff::Verdict::Fault(r, p) => TimetblsRead {
+            verdict: iff::Verdict::Fault(r, p),
+            rows: 0,
+            services: 0,
+        },
         iff::Verdict::Fine => {
             if text.len() == 0 {
-                return iff::Verdict::Fine;
+                return TimetblsRead {
+                    verdict: iff::Verdict::Fine,
+                    rows: 0,
+                    services: 0,
+                };
             }
             match heads::begin_file(iff::File::Timetbls, text, header, t) {
-                reading::Begin::Broken(r) => iff::Verdict::Fault(
-                    r,
-                    iff::Place::At(iff::File::Timetbls, 0, 1),
-                ),
+                reading::Begin::Broken(r) => TimetblsRead {
+                    verdict: iff::Verdict::Fault(r, iff::Place::At(iff::File::Timetbls, 0, 1)),
+                    rows: 0,
+                    services: 0,
+                },
                 reading::Begin::Rest(from) => {
                     match read_blocks(text, from, form, t, companies, modes, stations, footnotes) {
-                        reading::RowsRead::Stopped(r, p) => iff::Verdict::Fault(r, p),
-                        reading::RowsRead::AllRead(rises) => {
+                        BlocksPut::Refused(r, p) => TimetblsRead {
+                            verdict: iff::Verdict::Fault(r, p),
+                            rows: 0,
+                            services: 0,
+                        },
+                        BlocksPut::All(rises, rows, services) => {
                             heads::set_rises(t, rises);
-                            iff::Verdict::Fine
+                            TimetblsRead {
+                                verdict: iff::Verdict::Fine,
+                                rows: rows,
+                                services: services,
+                            }
                         }
                     }
                 }
