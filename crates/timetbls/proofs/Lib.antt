@@ -1,4 +1,2 @@
-pub mod GroupLaws
-pub mod PartLaws
 pub mod AddLaws
 pub mod ReadLaws

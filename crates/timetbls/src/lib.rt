@@ -16,7 +16,7 @@ ghost use Rattle.keys.specs.Lookup.{keysIn};
 ghost use Rattle.reading.specs.Reading.{Ready, FileRead};
 ghost use Rattle.fresh_keys.specs.Runs.{runOf};
 ghost use Rattle.marks.specs.Marks.{slots, Marked};
-ghost use Rattle.timetbls.specs.Blocks.{Clean, NextBlock, StrayTold, BlockPlaced, BlockTried, Remembered, Addable, BlockAdded};
+ghost use Rattle.timetbls.specs.Blocks.{StrayTold, BlockPlaced, BlockTried, Remembered, Addable, BlockAdded};
 ghost use Rattle.timetbls.specs.Blocks.{BlocksReady, BlocksAdded, AfterFirst, BlocksRead};
 
 // What became of a block: what is remembered of the services with it, and where the next block's rows go; or why it is refused, and at which line.
@@ -26,24 +26,6 @@ pub enum BlockPut {
 }
 
 // BLOCKS
-
-// Where the block that begins at `from` ends: at the next line beginning `#`, or at the text's end.
-fn next_head(text: &[u8], from: usize) -> usize
-    requires { ⌜ (from < length (now text)) × Clean (lines (drop from (now text))) ⌝ }
-    ensures { λ r. ⌜ NextBlock (now (text .entry)) from r ⌝ }
-{
-    let head = text::line_at(text, from);
-    let mut at = head.next;
-    while at < text.len() {
-        let span = text::line_at(text, at);
-        let end = span.end;
-        if text::first_byte(&text[at..end]) == b'#' {
-            return at;
-        }
-        at = span.next;
-    }
-    at
-}
 
 // A block that the quick reader left, checked, and then written in the place of what that reader put there.
 fn check_then_write(
@@ -241,7 +223,8 @@ fn add_blocks(
     let mut run = fresh_keys::no_keys();
     while at < text.len() {
         let ordinal = done + 1;
-        let next = next_head(text, at);
+        let found = block_ends::next_head(text, at);
+        let next = found.next;
         match add_block(
             &text[at..next],
             form,
