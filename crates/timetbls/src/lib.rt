@@ -64,7 +64,8 @@ fn check_then_write(
     }
 }
 
-// A block with its rows behind the first `row` rows, if it is whole: at one look if it is told to be right, else as above.
+// A block, of so many lines and stops as it is thought, with its rows behind the first `row` rows, if it is whole: at one look if it is told to
+// be right, else as above.
 fn place_block(
     block: &[u8],
     form: iff::Form,
@@ -77,6 +78,8 @@ fn place_block(
     stations: &[u64],
     footnotes: &[u64],
     places: &[u32],
+    lines: u64,
+    stops: u64,
 ) -> blocks::Checked
     requires { ⌜ (0 < length (now block)) × ((row + linesIn (asBlock (now block))) * rowWidth Timetbls ≤ length (now t)) ⌝ }
     ensures { λ r. ⌜ BlockPlaced form (now (block .entry)) fresh counts
@@ -94,6 +97,8 @@ fn place_block(
         stations,
         footnotes,
         places,
+        lines,
+        stops,
     ) {
         quick_blocks::Quickly::Put(k, n) => blocks::Checked::Whole(k, n),
         quick_blocks::Quickly::Left => check_then_write(
@@ -126,6 +131,8 @@ fn try_block(
     stations: &[u64],
     footnotes: &[u64],
     places: &[u32],
+    lines: u64,
+    stops: u64,
 ) -> blocks::Checked
     requires { ⌜ Addable (now block) (now t) (now marks) run row ⌝ }
     ensures { λ r. ⌜ BlockTried form (now (block .entry)) (now (t .entry)) (now (t .exit)) counts
@@ -145,6 +152,8 @@ fn try_block(
         stations,
         footnotes,
         places,
+        lines,
+        stops,
     )
 }
 
@@ -172,6 +181,8 @@ fn add_block(
     stations: &[u64],
     footnotes: &[u64],
     places: &[u32],
+    lines: u64,
+    stops: u64,
 ) -> BlockPut
     requires { ⌜ Addable (now block) (now t) (now marks) run row ⌝ }
     ensures { λ r. ⌜ BlockAdded form (now (block .entry)) (now (t .entry)) (now (t .exit)) (now (marks .exit)) counts
@@ -190,6 +201,8 @@ fn add_block(
         stations,
         footnotes,
         places,
+        lines,
+        stops,
     ) {
         blocks::Checked::Broken(why, line) => BlockPut::Faulty(why, line),
         blocks::Checked::Whole(k, _) => {
@@ -238,6 +251,8 @@ fn add_blocks(
             stations,
             footnotes,
             places,
+            found.lines,
+            found.stops,
         ) {
             BlockPut::Faulty(why, line) => {
                 let place = iff::Place::At(iff::File::Timetbls, ordinal, line);

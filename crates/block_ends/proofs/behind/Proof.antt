@@ -11,8 +11,8 @@ returns-4 c h =
     record {
       low = omega (arith, room .before .length-by .ensures);
       high = omega (arith, room .if1 .left);
-      returns = search (needs, cr .if2 .left);
-      feeds = search (needs, c .if3 .left);
+      returns = cr .if2 .left;
+      feeds = c .if3 .left;
     }
 
 pub behind-spec : {M : Type 1} → statement M
