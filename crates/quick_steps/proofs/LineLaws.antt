@@ -54,11 +54,6 @@ is-one b r e h = rw (sym e ∙ h)
 pub is-none : (b r : Bool) → r ≡ b → r ≡ false → 0 ≡ one b
 is-none b r e h = rw (sym e ∙ h)
 
--- a guess at some lines up to `at`
-pub record Guess (at lines stops : ℕ) : Type 0 where
-  pub low : lines ≤ at
-  pub few : stops ≤ lines
-
 -- A LINE THAT IS SEEN, whose row, with any number, passes
 module _ (form : Form) (counts : BlockCounts) (co mo st fo b : List ℕ) (at x n k stops : ℕ) (r : Words) (s : Seen form b at x n k r) where
   abbrev here : Line

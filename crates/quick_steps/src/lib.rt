@@ -16,29 +16,7 @@ pub enum LinePut {
     Unsure,
 }
 
-// WHAT A BLOCK HAS, as far as its letters tell, before it is read
-
-// How many lines and stops: a guess, and whoever uses it counts again.
-pub struct Ahead {
-    pub lines: u64,
-    pub stops: u64,
-}
-
-// The length of a record, CR LF counted.
-fn length_by(letter: u8) -> usize
-    ensures { λ r. ⌜ (0 < r) × (r < 60) ⌝ }
-{
-    match letter {
-        b'+' => 20,
-        b';' => 10,
-        b'?' => 20,
-        b'#' => 11,
-        b'%' => 59,
-        b'-' => 16,
-        b'*' => 21,
-        _ => 15,
-    }
-}
+// ONE LINE
 
 // 1 for a stop.
 fn stop_for(letter: u8) -> u64
@@ -46,26 +24,6 @@ fn stop_for(letter: u8) -> u64
 {
     if order::is_stop(letter as u64) { 1 } else { 0 }
 }
-
-pub fn count_ahead(block: &[u8]) -> Ahead
-    ensures { λ r. ⌜ r .stops ≤ r .lines ⌝ }
-{
-    let mut at: usize = 0;
-    let mut lines: u64 = 0;
-    let mut stops: u64 = 0;
-    while at < block.len() {
-        let letter = block[at];
-        lines += 1;
-        stops += stop_for(letter);
-        at += length_by(letter);
-    }
-    Ahead {
-        lines: lines,
-        stops: stops,
-    }
-}
-
-// ONE LINE
 
 // The words of the line at `at`, in a block of k lines and n stops, where it has `stops` stops before it: told to be right in all but its place.
 fn tested_words(

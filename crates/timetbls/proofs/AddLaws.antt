@@ -44,7 +44,7 @@ use Rattle.quick_blocks.specs.Whole.{QuickPut}
 use Rattle.block_rows.proofs.RowLaws.{rows-used, rows-count, block-keys}
 use Rattle.timetbls.specs.declared.BlockPut.the-variants.{Kept, Faulty}
 use Rattle.timetbls.specs.Blocks.{StrayTold, BlockTested, BlockPlaced, Remembered, Addable, BlockAdded}
-use Rattle.timetbls.proofs.GroupLaws.{front-open, front-closed, front-nil}
+use Rattle.block_ends.proofs.GroupLaws.{front-open, front-closed, front-nil}
 
 -- A LINE BEFORE THE FIRST BLOCK
 module _ (t : List ℕ) (from : ℕ) where

@@ -35,7 +35,8 @@ use Rattle.timetbls.specs.declared.BlockPut.{BlockPut}
 use Rattle.timetbls.specs.declared.BlockPut.the-variants.{Kept, Faulty}
 use Rattle.timetbls.specs.declared.BlocksPut.{BlocksPut}
 use Rattle.timetbls.specs.declared.BlocksPut.the-variants.{All, Refused}
-use Rattle.timetbls.specs.Blocks.{part, Clean, NextBlock, StrayTold, Holding, Addable, BlockAdded, blocksVerdict}
+use Rattle.block_ends.specs.Blocks.{part, Clean, NextBlock}
+use Rattle.timetbls.specs.Blocks.{StrayTold, Holding, Addable, BlockAdded, blocksVerdict}
 use Rattle.timetbls.specs.Blocks.{BlocksReady, BlocksAdded, AfterFirst, BlocksRead, asRead}
 
 -- A LOOP OVER BLOCKS, at `at` and after `done` blocks: what is left says what all were to say, and leaves the rows that all were to leave

@@ -1,10 +1,10 @@
 -- What the reader of TIMETBLS asks and tells.
-use Prim.Native.Nat.{ℕ, _+_, _-_, _*_, _≤_, _<_}
+use Prim.Native.Nat.{ℕ, _+_, _*_, _≤_}
 use mathlib.Core.Path.{_≡_}
 use mathlib.Core.List.{List, [], _∷_, _++_}
-use mathlib.Core.Bool.{Bool, true, false}
+use mathlib.Core.Bool.{Bool}
 use lib.ListN.{length, take, drop}
-use Rattle.iff.specs.Lists.{front, any}
+use Rattle.iff.specs.Lists.{front}
 use Rattle.iff.specs.Refusals.{verdictAt, scan, fine}
 use Rattle.iff.specs.Lines.{Line, lines, isHash}
 use Rattle.iff.specs.Tables.{Row, rowWidth, rowsIn, joined, fill, rising}
@@ -27,6 +27,7 @@ use Rattle.references.specs.Agree.{BlockKeys, BlockKeysAmong}
 use Rattle.blocks.specs.declared.Checked.{Checked}
 use Rattle.blocks.specs.declared.Checked.the-variants.{Whole}
 use Rattle.blocks.specs.Whole.{checkedAt, WholeBlock, BlockChecked}
+use Rattle.block_ends.specs.Blocks.{OneBlock, Clean}
 use Rattle.reading.specs.declared.RowsRead.{RowsRead}
 use Rattle.reading.specs.declared.RowsRead.the-variants.{AllRead, Stopped}
 use Rattle.reading.specs.Reading.{Begun, RowsDone, FileRead, rowsVerdict, risesOf}
@@ -35,29 +36,6 @@ use Rattle.timetbls.specs.declared.BlockPut.the-variants.{Kept, Faulty}
 use Rattle.timetbls.specs.declared.BlocksPut.{BlocksPut}
 use Rattle.timetbls.specs.declared.BlocksPut.the-variants.{All, Refused}
 use Rattle.timetbls.specs.declared.TimetblsRead.{TimetblsRead}
-
--- WHERE A BLOCK STANDS in a text
-abbrev pub part : List ℕ → ℕ → ℕ → List ℕ
-part t from to = take (to - from) (drop from t)
-
--- one line beginning `#`, the first
-pub record OneBlock (b : List ℕ) : Type 0 where
-  pub some : 0 < length b
-  pub opens : isHash (asBlock b .top) ≡ true
-  pub single : any isHash (asBlock b .rest) ≡ false
-
--- lines that begin with a block, or none
-abbrev pub Clean : List Line → Type 0
-Clean ls = front isHash ls ≡ []
-
--- the block from `from` up to r, and those from r on
-pub record NextBlock (t : List ℕ) (from r : ℕ) : Type 0 where
-  pub low : from < r
-  pub high : r ≤ length t
-  pub one : OneBlock (part t from r)
-  pub blocks : blocksOf (lines (drop from t)) ≡ asBlock (part t from r) ∷ blocksOf (lines (drop r t))
-  pub clean : Clean (lines (drop r t))
-  pub sized : length (lines (drop from t)) ≡ linesIn (asBlock (part t from r)) + length (lines (drop r t))
 
 -- lines before the first block
 pub record StrayTold (ls : List Line) (r : Test) : Type 0 where

@@ -16,7 +16,7 @@ ghost use Rattle.keys.specs.Lookup.{keysIn};
 ghost use Rattle.reading.specs.Reading.{Ready};
 ghost use Rattle.fresh_keys.specs.Runs.{runOf};
 ghost use Rattle.marks.specs.Marks.{slots, Marked};
-ghost use Rattle.timetbls.specs.Blocks.{Clean, NextBlock, StrayTold, BlockPlaced, BlockTried, Remembered, Addable, BlockAdded};
+ghost use Rattle.timetbls.specs.Blocks.{StrayTold, BlockPlaced, BlockTried, Remembered, Addable, BlockAdded};
 ghost use Rattle.timetbls.specs.Blocks.{BlocksReady, BlocksAdded, AfterFirst, BlocksRead, TimetblsDone};
 
 // What became of a block: what is remembered of the services with it, and where the next block's rows go; or why it is refused, and at which line.
@@ -40,24 +40,6 @@ pub struct TimetblsRead {
 }
 
 // BLOCKS
-
-// Where the block that begins at `from` ends: at the next line beginning `#`, or at the text's end.
-fn next_head(text: &[u8], from: usize) -> usize
-    requires { ⌜ (from < length (now text)) × Clean (lines (drop from (now text))) ⌝ }
-    ensures { λ r. ⌜ NextBlock (now (text .entry)) from r ⌝ }
-{
-    let head = text::line_at(text, from);
-    let mut at = head.next;
-    while at < text.len() {
-        let span = text::line_at(text, at);
-        let end = span.end;
-        if text::first_byte(&text[at..end]) == b'#' {
-            return at;
-        }
-        at = span.next;
-    }
-    at
-}
 
 // A block that the quick reader left, checked, and then written in the place of what that reader put there.
 fn check_then_write(
@@ -96,7 +78,8 @@ fn check_then_write(
     }
 }
 
-// A block with its rows behind the first `row` rows, if it is whole: at one look if it is told to be right, else as above.
+// A block, of so many lines and stops as it is thought, with its rows behind the first `row` rows, if it is whole: at one look if it is told to
+// be right, else as above.
 fn place_block(
     block: &[u8],
     form: iff::Form,
@@ -109,6 +92,8 @@ fn place_block(
     stations: &[u64],
     footnotes: &[u64],
     places: &[u32],
+    lines: u64,
+    stops: u64,
 ) -> blocks::Checked
     requires { ⌜ (0 < length (now block)) × ((row + linesIn (asBlock (now block))) * rowWidth Timetbls ≤ length (now t)) ⌝ }
     ensures { λ r. ⌜ BlockPlaced form (now (block .entry)) fresh counts
@@ -126,6 +111,8 @@ fn place_block(
         stations,
         footnotes,
         places,
+        lines,
+        stops,
     ) {
         quick_blocks::Quickly::Put(k, n) => blocks::Checked::Whole(k, n),
         quick_blocks::Quickly::Left => check_then_write(
@@ -158,6 +145,8 @@ fn try_block(
     stations: &[u64],
     footnotes: &[u64],
     places: &[u32],
+    lines: u64,
+    stops: u64,
 ) -> blocks::Checked
     requires { ⌜ Addable (now block) (now t) (now marks) run row ⌝ }
     ensures { λ r. ⌜ BlockTried form (now (block .entry)) (now (t .entry)) (now (t .exit)) counts
@@ -177,6 +166,8 @@ fn try_block(
         stations,
         footnotes,
         places,
+        lines,
+        stops,
     )
 }
 
@@ -204,6 +195,8 @@ fn add_block(
     stations: &[u64],
     footnotes: &[u64],
     places: &[u32],
+    lines: u64,
+    stops: u64,
 ) -> BlockPut
     requires { ⌜ Addable (now block) (now t) (now marks) run row ⌝ }
     ensures { λ r. ⌜ BlockAdded form (now (block .entry)) (now (t .entry)) (now (t .exit)) (now (marks .exit)) counts
@@ -222,6 +215,8 @@ fn add_block(
         stations,
         footnotes,
         places,
+        lines,
+        stops,
     ) {
         blocks::Checked::Broken(why, line) => BlockPut::Faulty(why, line),
         blocks::Checked::Whole(k, _) => {
@@ -255,7 +250,8 @@ fn add_blocks(
     let mut run = fresh_keys::no_keys();
     while at < text.len() {
         let ordinal = done + 1;
-        let next = next_head(text, at);
+        let found = block_ends::next_head(text, at);
+        let next = found.next;
         match add_block(
             &text[at..next],
             form,
@@ -269,6 +265,8 @@ fn add_blocks(
             stations,
             footnotes,
             places,
+            found.lines,
+            found.stops,
         ) {
             BlockPut::Faulty(why, line) => {
                 let place = iff::Place::At(iff::File::Timetbls, ordinal, line);

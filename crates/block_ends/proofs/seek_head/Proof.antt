@@ -1,12 +1,12 @@
--- `timetbls::next_head` meets its contract: no line after the first begins with `#` so far. Assumes nothing.
+-- `block_ends::seek_head` meets its contract: no line after the first begins with `#` so far. Assumes nothing.
 use Prim.Native.Nat.{_-_}
 use mathlib.Core.Path.{sym, _∙_}
 use borrow.Author.Needs.{needs}
 use borrow.Author.Tests.{eq-eqb, ne-eqb}
 use lib.ListN.{length}
-use Rattle.timetbls.proofs.PartLaws.{Seeking, seek-start, seek-next, seek-found, seek-none}
-use Rattle.timetbls.proofs.next_head.Statement.{statement}
-use Rattle.timetbls.proofs.next_head.Tie as tie
+use Rattle.block_ends.proofs.PartLaws.{Seeking, seek-start, seek-next, seek-found, seek-none}
+use Rattle.block_ends.proofs.seek_head.Statement.{statement}
+use Rattle.block_ends.proofs.seek_head.Tie as tie
 
 abbrev Inv-loop : tie.InvT-loop
 Inv-loop text from at₀ at = Seeking text from at
@@ -38,8 +38,8 @@ returns-2 c =
     let s = t .before .before .before in
     seek-none (s .args .text .now) (s .args .from) (t .loop .at) (t .loop .inv) (c .loop-test .left) (s .pre .1)
 
-pub next-head-spec : {M : Type 1} → statement M
-next-head-spec =
+pub seek-head-spec : {M : Type 1} → statement M
+seek-head-spec =
     tie.close
     (tie.spec
     Inv-loop

@@ -16,8 +16,8 @@ use Rattle.text.specs.Spans.{spanLine, LineAt}
 use Rattle.text.proofs.LineLaws.{lines-step, lines-nil, lines-end, rest-part}
 use Rattle.text.proofs.CutLaws.{Closed, closed-end, part-ended, part-line}
 use Rattle.legs.proofs.RowLaws.{block-lines}
-use Rattle.timetbls.specs.Blocks.{part, Clean, NextBlock}
-use Rattle.timetbls.proofs.GroupLaws.{any-append, groups-first, front-open, front-head, front-nil, behind-first}
+use Rattle.block_ends.specs.Blocks.{part, Clean, NextBlock}
+use Rattle.block_ends.proofs.GroupLaws.{any-append, groups-first, front-open, front-head, front-nil, behind-first}
 
 -- ONE LINE
 module _ (t : List ℕ) (at : ℕ) (s : LineSpan) (l : LineAt t at s) where
