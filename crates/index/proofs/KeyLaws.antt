@@ -242,5 +242,32 @@ module _ (f : File) (used : ℕ) (t ps : List ℕ) where
       pub again-told : r ≡ Came → KeysTold (keysAmong f used t) (record { distinct = false; rise = false }) × (length ms ≡ length ps)
       again-told q = (told-again f t used false (p .came q used h (x .told)), p .wide ∙ x .index .wide)
 
+    -- rows that name nothing are gone over
+    none-named : i < used → namesAt f t i ≡ false → Indexed f used t ps run (suc i) qs
+    none-named h e =
+        record {
+          some = omega arith;
+          told = told-none f t used run i h (x .told) e;
+          index = one-more f t i (length ps) qs (x .index) (λ n. absurd (true≢false (sym n ∙ e)));
+        }
+
     pub all-told : used ≤ i → KeysTold (keysAmong f used t) (record { distinct = true; rise = run .rises }) × (length qs ≡ length ps)
     all-told h = (told-all f t used run i h (x .told), x .index .wide)
+
+  -- so are some of them at once
+  pub none-between : (run : KeyRun) (qs : List ℕ) (i to : ℕ) → i ≤ to → to ≤ used → ((j : ℕ) → i ≤ j → j < to → namesAt f t j ≡ false)
+      → Indexed f used t ps run i qs → Indexed f used t ps run to qs
+  none-between run qs i to low high none x =
+      let z : i + (to - i) ≡ to = omega arith in
+      rw z at (go (to - i) i (omega arith) (λ j l h. none j l (omega arith)) x)
+    where
+      go : (k from : ℕ) → from + k ≤ used → ((j : ℕ) → from ≤ j → j < from + k → namesAt f t j ≡ false)
+          → Indexed f used t ps run from qs → Indexed f used t ps run (from + k) qs
+      go zero from h n y =
+          let z : from + 0 ≡ from = omega arith in
+          rw z y
+      go (suc k) from h n y =
+          let z : from + suc k ≡ suc from + k = omega arith in
+          rw z
+          (go k (suc from) (omega arith) (λ j l g. n j (omega arith) (omega arith))
+          (none-named run from qs y (omega arith) (n from (omega arith) (omega arith))))

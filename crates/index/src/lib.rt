@@ -25,7 +25,7 @@ enum Met {
 }
 
 // What a row leaves: its key came before, or the run of the keys so far.
-enum Next {
+pub enum Next {
     Came,
     Goes(fresh_keys::KeyRun),
 }
@@ -88,7 +88,7 @@ fn put_key(file: iff::File, t: &[u64], i: usize, key: u64, places: &mut [u32]) -
 }
 
 // One row: its key is tested and put into the index, where it names something.
-fn index_row(
+pub fn index_row(
     file: iff::File,
     t: &[u64],
     i: usize,

@@ -2,7 +2,7 @@
 use Prim.Native.Nat.{ℕ}
 use mathlib.Core.Path.{_≡_}
 use mathlib.Core.List.{List}
-use mathlib.Core.Bool.{Bool, true, cond}
+use mathlib.Core.Bool.{Bool, true, _&&_, cond}
 use lib.ListN.{length}
 use Rattle.iff.specs.Lists.{all}
 use Rattle.iff.specs.Files.{PerFile, of, inOrder, needed}
@@ -39,8 +39,18 @@ there R f = cond (needed (heldIn R) f) (heldIn R f) true
 unfoldable pub allThere : PerFile (List Row) → Bool
 allThere R = all (there R) inOrder
 
+-- TIMETBLS is asked for as a whole, and the others in two parts
+abbrev pub butTimetbls : (File → Bool) → File → Bool
+butTimetbls p Delivery = p Delivery
+butTimetbls p (Rows f) = p (Rows f)
+butTimetbls p (Groups f) = p (Groups f)
+butTimetbls p Timetbls = true
+
 unfoldable pub allFramed : Form → Row → PerFile (List ℕ) → Bool
-allFramed form delivery T = all (λ f. framed form delivery f (of T f)) inOrder
+allFramed form delivery T = all (butTimetbls (λ f. framed form delivery f (of T f))) inOrder
 
 unfoldable pub allBehind : Context → PerFile (List ℕ) → Bool
-allBehind c T = all (λ f. behind c f (rowsIn f (of T f))) inOrder
+allBehind c T = all (butTimetbls (λ f. behind c f (rowsIn f (of T f)))) inOrder
+
+abbrev pub timetblsSound : Context → Form → Row → List ℕ → Bool
+timetblsSound c form delivery t = framed form delivery Timetbls t && behind c Timetbls (rowsIn Timetbls t)

@@ -105,7 +105,7 @@ fn are_there(used: UsedRows) -> bool
     0 < used.xfootnote
 }
 
-// The frames of all tables, in the files' order. The keys of each go into the index.
+// The frames of all tables but TIMETBLS, in the files' order. The keys of each go into the index.
 fn are_framed(
     delivery: &[u64],
     company: &[u64],
@@ -192,17 +192,8 @@ fn are_framed(
         form,
         places,
     );
-    let with_timetbls = sound_frames::is_framed(
-        with_footnote,
-        File::Timetbls,
-        timetbls,
-        used.timetbls,
-        first,
-        form,
-        places,
-    );
     let with_changes = sound_frames::is_framed(
-        with_timetbls,
+        with_footnote,
         File::Groups(GroupFile::Changes),
         changes,
         used.changes,
@@ -231,7 +222,7 @@ fn are_framed(
     with_xchanges
 }
 
-// The rows behind the first lines' of all tables, in the files' order. DELIVERY has none.
+// The rows behind the first lines' of all tables but TIMETBLS, in the files' order. DELIVERY has none.
 fn are_right_behind(
     delivery: &[u64],
     company: &[u64],
@@ -258,12 +249,6 @@ fn are_right_behind(
         (now (timezone .entry)) (now (stations .entry)) (now (footnote .entry)) (now (timetbls .entry)) (now (changes .entry))
         (now (xfootnote .entry)) (now (xchanges .entry)))) ⌝ }
 {
-    let blocks = references::BlockCounts {
-        companies: used.company,
-        modes: used.trnsmode,
-        stations: used.stations,
-        footnotes: used.footnote,
-    };
     let groups = references::GroupCounts {
         companies: used.company,
         modes: used.trnsmode,
@@ -336,19 +321,8 @@ fn are_right_behind(
         places,
         xfootnote,
     );
-    let with_timetbls = sound_behind::are_blocks_right(
-        with_footnote,
-        timetbls,
-        used.timetbls,
-        blocks,
-        company,
-        trnsmode,
-        stations,
-        footnote,
-        places,
-    );
     let with_changes = sound_behind::are_groups_right(
-        with_timetbls,
+        with_footnote,
         GroupFile::Changes,
         changes,
         used.changes,
@@ -404,7 +378,8 @@ pub fn form_of(first: &[u64]) -> Form
     }
 }
 
-// The tables that are needed are there: the frames, the rows, and DELIVERY's own company.
+// The tables that are needed are there: the frames, TIMETBLS as a whole, the rows of the others, and DELIVERY's own company. CHANGES, whose rows name
+// services, comes after TIMETBLS, whose services are in the index then.
 fn are_all_sound(
     delivery: &[u64],
     company: &[u64],
@@ -444,6 +419,26 @@ fn are_all_sound(
         used,
         first,
         form,
+        places,
+    ) {
+        return false;
+    }
+    let blocks = references::BlockCounts {
+        companies: used.company,
+        modes: used.trnsmode,
+        stations: used.stations,
+        footnotes: used.footnote,
+    };
+    if !sound_behind::are_blocks_right(
+        timetbls,
+        used.timetbls,
+        first,
+        form,
+        blocks,
+        company,
+        trnsmode,
+        stations,
+        footnote,
         places,
     ) {
         return false;

@@ -1,14 +1,20 @@
-// The rows behind first lines', file by file: each function hands a refusal on, and a table without rows has nothing to be tested.
+// The rows behind first lines', file by file: each function hands a refusal on, and a table without rows has nothing to be tested. TIMETBLS, whose rows
+// are most of a delivery's, is gone through once, for its frame too.
+use iff::File;
 use iff::Form;
 use iff::GroupFile;
 use iff::RowFile;
+use iff::tags;
+use iff::words;
 ghost use mathlib.Core.Path.{_≡_};
 ghost use mathlib.Core.Bool.{_&&_};
+ghost use Prim.Native.Nat.{_≤_, _<_};
 ghost use lib.ListN.{length};
 ghost use Rattle.iff.specs.Tables.{rowsIn};
 ghost use Rattle.iff.specs.declared.File.the-variants.{Rows, Groups, Timetbls};
 ghost use Rattle.iff_rules.specs.Rows.{Context};
 ghost use Rattle.references.specs.Agree.{StationKeys, GroupKeysAmong, BlockKeysAmong};
+ghost use Rattle.sound_frames.specs.Frames.{framed};
 ghost use Rattle.sound_behind.specs.Behind.{behind};
 
 // A file of rows.
@@ -76,30 +82,28 @@ pub fn are_groups_right(
     )
 }
 
-// TIMETBLS.
+// TIMETBLS, its frame with it: what is told of its services is told where its blocks are tested.
 pub fn are_blocks_right(
-    so_far: bool,
     t: &[u64],
     used: usize,
+    delivery: &[u64],
+    form: Form,
     counts: references::BlockCounts,
     companies: &[u64],
     modes: &[u64],
     stations: &[u64],
     footnotes: &[u64],
-    places: &[u32],
+    places: &mut [u32],
 ) -> bool
-    requires { ⌜ used ≡ length (rowsIn Timetbls (now t)) ⌝ }
+    requires { ⌜ (0 < used) × (used ≡ length (rowsIn Timetbls (now t))) × (5 ≤ length (now delivery)) ⌝ }
     ensures { λ r. ⌜ ((c : Context)
         → BlockKeysAmong c counts (now (companies .entry)) (now (modes .entry)) (now (stations .entry)) (now (footnotes .entry))
-        → r ≡ («so_far» && behind c Timetbls (rowsIn Timetbls (now (t .entry))))) ⌝ }
+        → r ≡ (framed form (now (delivery .entry)) Timetbls (now (t .entry)) && behind c Timetbls (rowsIn Timetbls (now (t .entry))))) ⌝ }
 {
-    if !so_far {
+    if tables::word_or_zero(t, words::TAG) != tags::AT {
         return false;
     }
-    if used == 0 {
-        return true;
-    }
-    sound_blocks::are_blocks_sound(
+    let sound_blocks::BlocksAre::Sound(rise) = sound_blocks::are_blocks_sound(
         t,
         used,
         counts,
@@ -108,5 +112,11 @@ pub fn are_blocks_right(
         stations,
         footnotes,
         places,
-    )
+    ) else {
+        return false;
+    };
+    if !tables::zero_from(t, used * tables::BLOCK_WIDTH) {
+        return false;
+    }
+    sound_frames::are_rows_framed_by(File::Timetbls, t, used, delivery, form, rise)
 }

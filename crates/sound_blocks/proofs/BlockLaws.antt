@@ -145,7 +145,7 @@ pub record Left (counts : BlockCounts) (co mo st fo t : List ℕ) (used i : ℕ)
       → soundTimetbls c (rowsOf t 1 used) ≡ all (soundBlock c) (groups isHashRow (rowsOf t i used))
 
 module _ (counts : BlockCounts) (co mo st fo t : List ℕ) (used : ℕ) where
-  abbrev AllSays : Bool → Type 0
+  abbrev pub AllSays : Bool → Type 0
   AllSays b = (c : Context) → BlockKeysAmong c counts co mo st fo → b ≡ soundTimetbls c (rowsOf t 1 used)
 
   module _ (first : ℕ) (n : NextHead (rowWidth Timetbls) t 1 used first) where

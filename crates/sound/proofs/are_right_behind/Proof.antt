@@ -1,4 +1,4 @@
--- `sound::are_right_behind` meets its contract: DELIVERY's rows, then ten files, one after the other. Assumes nothing.
+-- `sound::are_right_behind` meets its contract: DELIVERY's rows, then nine files, one after the other. Assumes nothing.
 use mathlib.Core.Path.{_≡_, refl, ap, sym, _∙_}
 use borrow.Author.Needs.{needs}
 use lib.Dec.{ltb}
@@ -9,7 +9,7 @@ use Rattle.iff_rules.specs.Rows.{contextOf}
 use Rattle.iff_desk.specs.Sound.{rowsOfTables}
 use Rattle.sound_behind.specs.Behind.{behind}
 use Rattle.sound.specs.Whole.{allBehind}
-use Rattle.sound.proofs.WholeLaws.{in-order, one-row, station-keys, group-keys, block-keys}
+use Rattle.sound.proofs.WholeLaws.{in-order, one-row, station-keys, group-keys}
 use Rattle.sound.proofs.are_right_behind.Statement.{statement}
 use Rattle.sound.proofs.are_right_behind.Tie as tie
 
@@ -34,23 +34,19 @@ requires-5 c κs = c .before .before .before .before .before .before .before .be
 requires-6 : tie.Need-are-groups-right-requires-2
 requires-6 c κs = c .before .before .before .before .before .before .before .before .before .before .before .before .before .before .before .before .before .before .pre .footnote
 
-requires-7 : tie.Need-are-blocks-right-requires
-requires-7 c κs = c .before .before .before .before .before .before .before .before .before .before .before .before .before .before .before .before .before .before .before .pre .timetbls
+requires-7 : tie.Need-are-groups-right-requires-3
+requires-7 c κs = c .before .before .before .before .before .before .before .before .before .before .before .before .before .before .before .before .before .before .before .pre .changes
 
-requires-8 : tie.Need-are-groups-right-requires-3
-requires-8 c κs = c .before .before .before .before .before .before .before .before .before .before .before .before .before .before .before .before .before .before .before .before .pre .changes
+requires-8 : tie.Need-are-groups-right-requires-4
+requires-8 c κs = c .before .before .before .before .before .before .before .before .before .before .before .before .before .before .before .before .before .before .before .before .pre .xfootnote
 
-requires-9 : tie.Need-are-groups-right-requires-4
-requires-9 c κs = c .before .before .before .before .before .before .before .before .before .before .before .before .before .before .before .before .before .before .before .before .before .pre .xfootnote
-
-requires-10 : tie.Need-are-groups-right-requires-5
-requires-10 c κs = c .before .before .before .before .before .before .before .before .before .before .before .before .before .before .before .before .before .before .before .before .before .before .pre .xchanges
+requires-9 : tie.Need-are-groups-right-requires-5
+requires-9 c κs = c .before .before .before .before .before .before .before .before .before .before .before .before .before .before .before .before .before .before .before .before .before .pre .xchanges
 
 returns : tie.Need-returns
 unfolding allBehind
 returns c form =
-    let c10 = c in
-    let c9 = c10 .before in
+    let c9 = c in
     let c8 = c9 .before in
     let c7 = c8 .before in
     let c6 = c7 .before in
@@ -65,8 +61,7 @@ returns c form =
     let x = contextOf (rowsOfTables T) in
     let st = station-keys T in
     let gr = group-keys T (a .used) (s .pre) in
-    let bl = block-keys T (a .used) (s .pre) in
-    in-order (λ f. behind x f (rowsIn f (of T f))) _ _ _ _ _ _ _ _ _ _ _
+    in-order (λ f. behind x f (rowsIn f (of T f))) _ _ _ _ _ _ _ _ _ _
     (ap (λ n. ltb n 2) (s .pre .delivery) ∙ one-row x (rowsIn Delivery (a .delivery .now)))
     (c1 .are-rows-right .ensures x (sym form) st)
     (c2 .are-rows-right2 .ensures x (sym form) st)
@@ -74,10 +69,9 @@ returns c form =
     (c4 .are-groups-right .ensures x (sym form) gr)
     (c5 .are-rows-right4 .ensures x (sym form) st)
     (c6 .are-groups-right2 .ensures x (sym form) gr)
-    (c7 .are-blocks-right .ensures x bl)
-    (c8 .are-groups-right3 .ensures x (sym form) gr)
-    (c9 .are-groups-right4 .ensures x (sym form) gr)
-    (c10 .are-groups-right5 .ensures x (sym form) gr)
+    (c7 .are-groups-right3 .ensures x (sym form) gr)
+    (c8 .are-groups-right4 .ensures x (sym form) gr)
+    (c9 .are-groups-right5 .ensures x (sym form) gr)
 
 pub are-right-behind-spec : {M : Type 1} → statement M
 are-right-behind-spec =
@@ -92,5 +86,4 @@ are-right-behind-spec =
     requires-7
     requires-8
     requires-9
-    requires-10
     returns)
