@@ -14,6 +14,7 @@ use Rattle.iff_rules.specs.Rows.{Context}
 use Rattle.iff_rules.specs.References.{anyCompany, anyMode}
 use Rattle.keys.specs.Lookup.{keysIn, keysAmong}
 use Rattle.references.specs.declared.BlockCounts.{BlockCounts}
+use Rattle.references.specs.declared.StationCounts.{StationCounts}
 use Rattle.references.specs.declared.GroupCounts.{GroupCounts}
 
 -- what a line of a TIMETBLS block names
@@ -42,6 +43,11 @@ pub record BlockKeysAmong (c : Context) (n : BlockCounts) (co mo st fo : List �
   pub modes : c .keys (Rows Trnsmode) ≡ keysAmong (Rows Trnsmode) (n .modes) mo
   pub stations : c .keys (Rows Stations) ≡ keysAmong (Rows Stations) (n .stations) st
   pub footnotes : c .keys (Groups Footnote) ≡ keysAmong (Groups Footnote) (n .footnotes) fo
+
+-- what a row of STATIONS names
+pub record StationKeysAmong (c : Context) (n : StationCounts) (cy zo : List ℕ) : Type 0 where
+  pub countries : c .keys (Rows Country) ≡ keysAmong (Rows Country) (n .countries) cy
+  pub zones : c .keys (Groups Timezone) ≡ keysAmong (Groups Timezone) (n .zones) zo
 
 -- what a row of CHANGES names
 pub record ChangeKeysAmong (c : Context) (n : GroupCounts) (st se : List ℕ) : Type 0 where

@@ -14,6 +14,6 @@ add-line-spec =
     (λ c κs. search needs)
     (λ c. omega (arith, c .row-width .ensures .few))
     (λ c. sym (length-take-le (c .before .row-width .result) (replicate 14 0) (omega (arith, c .before .row-width .ensures .few))))
-    (λ c κs. (length-take-le (c .before .before .row-width .result) (replicate 14 0) (omega (arith, c .before .before .row-width .ensures .few)) ∙ c .before .before .row-width .ensures .is, c .before .before .before .before .before .before .before .before .pre))
+    (λ c κs. (length-take-le (c .before .before .row-width .result) (replicate 14 0) (omega (arith, c .before .before .row-width .ensures .few)) ∙ c .before .before .row-width .ensures .is, c .before .before .before .before .before .before .before .before .before .before .pre))
     (λ c. c .before .before .before .add-row .ensures .kept)
     (λ c. c .before .before .before .add-row .ensures))
