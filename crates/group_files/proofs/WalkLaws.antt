@@ -42,7 +42,7 @@ use Rattle.reading.specs.Reading.{RowsDone}
 use Rattle.reading.specs.declared.RowsRead.{RowsRead}
 use Rattle.reading.specs.declared.RowsRead.the-variants.{AllRead, Stopped}
 use Rattle.group_marks.specs.Numbers.{Remembered, withRow}
-use Rattle.group_marks.proofs.NumberLaws.{opens, key-more, rest-more}
+use Rattle.group_marks.proofs.NumberLaws.{none-remembered, opens, key-more, rest-more}
 use Rattle.group_lines.specs.Tests.{joins}
 use Rattle.group_lines.specs.Facts.{openRows, openFrom, Beside, opening, groupFor, putVerdict, lineDue, PutThere, LineDone}
 use Rattle.group_lines.specs.declared.Open.{Open}
@@ -115,10 +115,9 @@ module _ (f : GroupFile) (form : Form) (from : ℕ) (text t₀ : List ℕ) (Agre
   Done t r = RowsDone (Groups f) form Agree (λ c. groupsVerdict c f all) first (map rowIn all) t₀ t r
 
   -- IT BEGINS with no lines read and no group open
-  pub walk-start : (marks : List ℕ) → Remembered f [] 0 [] marks → (run : KeyRun) (g : Open) → run ≡ noKeys → g ≡ opening run
-      → Walks from 0 g t₀ marks
+  pub walk-start : (marks : List ℕ) (run : KeyRun) (g : Open) → run ≡ noKeys → g ≡ opening run → Walks from 0 g t₀ marks
   unfolding kept after
-  walk-start marks m run g e o =
+  walk-start marks run g e o =
       rw o
       (record {
         inside = G .inside;
@@ -129,7 +128,7 @@ module _ (f : GroupFile) (form : Form) (from : ℕ) (text t₀ : List ℕ) (Agre
         used = ((G .begun .width, G .begun .used), tt);
         stands = sym stand-none;
         runs = e;
-        marked = opens f [] 0 [] marks m (openFrom 1 0);
+        marked = none-remembered f (openFrom 1 0) marks;
         left = λ c d a. groups-flat c f all;
         kept = refl;
       })

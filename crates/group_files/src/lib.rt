@@ -11,7 +11,7 @@ use reading::RowsRead;
 use references::GroupCounts;
 ghost use mathlib.Core.Path.{_≡_};
 ghost use mathlib.Core.Bool.{true};
-ghost use mathlib.Core.List.{[], map};
+ghost use mathlib.Core.List.{map};
 ghost use Prim.Native.Nat.{_+_, _^_, _<_};
 ghost use lib.ListN.{drop};
 ghost use Rattle.iff.specs.Lines.{lines};
@@ -20,7 +20,6 @@ ghost use Rattle.iff.specs.declared.File.the-variants.{Groups};
 ghost use Rattle.iff_rules.specs.Rows.{rowOf};
 ghost use Rattle.iff_rules.specs.Load.{groupsVerdict};
 ghost use Rattle.references.specs.Agree.{GroupKeys, GroupKeysAmong};
-ghost use Rattle.group_marks.specs.Numbers.{Remembered};
 ghost use Rattle.reading.specs.Reading.{Ready, RowsDone, FileRead};
 ghost use Rattle.group_files.specs.Begun.{firstIn, GroupsBegun};
 
@@ -49,7 +48,7 @@ fn add_lines(
     xfootnotes: &[u64],
     marks: &mut [u8],
 ) -> RowsRead
-    requires { ⌜ GroupsBegun file (now text) from (now t) × Remembered file [] 0 [] (now marks) ⌝ }
+    requires { ⌜ GroupsBegun file (now text) from (now t) ⌝ }
     ensures { λ r. ⌜ RowsDone (Groups file) form
         (λ c. GroupKeysAmong c counts (now (companies .entry)) (now (modes .entry)) (now (stations .entry)) (now (services .entry))
         (now (xfootnotes .entry)))

@@ -6,7 +6,7 @@ use mathlib.Core.Bool.{Bool, true, false, not, _&&_, _||_, cond, false≢true}
 use native.Mathlib.Omega.{arith}
 use borrow.Author.Tests.{eqb-true, eq-eqb, ne-eqb}
 use lib.Dec.{eqb}
-use lib.ListN.{length, drop, replicate}
+use lib.ListN.{length, drop}
 use Rattle.iff.specs.Bytes.{hash}
 use Rattle.iff.specs.Lists.{any, has}
 use Rattle.iff.specs.Tables.{Row, tag}
@@ -16,7 +16,7 @@ use Rattle.iff.specs.declared.GroupFile.the-variants.{Timezone, Footnote, Chang
 use Rattle.iff.specs.declared.File.the-variants.{Groups}
 use Rattle.iff_rules.specs.Unique.{sameIn, clash, freshKey, freshInGroup}
 use Rattle.marks.specs.Marks.{slots, withMarks, Marked}
-use Rattle.marks.proofs.MarkLaws.{none-marked, still-marked, marked-next}
+use Rattle.marks.proofs.MarkLaws.{still-marked, marked-next}
 use Rattle.group_marks.specs.Numbers.{stirred, stirredIn, keyNumber, rowNumber, numberIn, Remembered, withRow}
 
 -- NEW
@@ -76,23 +76,19 @@ told-new f from keys rows r marks n q w u m =
     (subst (λ (x : ℕ). has x (map (rowNumber f from) rows) ≡ false) q (u (map (rowNumber f from) rows) (m .rowed w)))
 
 -- THE MARKS GO ON
--- before the first row, where there are marks and where there are none
-pub none-remembered : (f : GroupFile) (from : ℕ) → Remembered f [] from [] (replicate slots 0)
-none-remembered f from = record { keyed = λ n. none-marked; rowed = λ n. none-marked }
-
-pub without-marks : (f : GroupFile) (keys : List ℕ) (from : ℕ) (rows : List Row) (marks : List ℕ) → (length marks ≡ slots → ⊥)
-    → Remembered f keys from rows marks
-without-marks f keys from rows marks h = record { keyed = λ n. absurd (h n); rowed = λ n. absurd (h n) }
-
--- marks of some are marks of none
-marked-none : (marks keys : List ℕ) → Marked marks keys → Marked marks []
+-- nothing is asked of the marks of none
+marked-none : (marks : List ℕ) → length marks ≡ slots → Marked marks []
 unfolding any
-marked-none marks keys m = record { wide = m .wide; one = λ k e. absurd (false≢true e); other = λ k e. absurd (false≢true e) }
+marked-none marks n = record { wide = n; one = λ k e. absurd (false≢true e); other = λ k e. absurd (false≢true e) }
+
+-- so before the first row they may be anything
+pub none-remembered : (f : GroupFile) (from : ℕ) (marks : List ℕ) → Remembered f [] from [] marks
+none-remembered f from marks = record { keyed = λ n. marked-none marks n; rowed = λ n. marked-none marks n }
 
 -- a group opens
 pub opens : (f : GroupFile) (keys : List ℕ) (from : ℕ) (rows : List Row) (marks : List ℕ) → Remembered f keys from rows marks
     → (next : ℕ) → Remembered f keys next [] marks
-opens f keys from rows marks m next = record { keyed = m .keyed; rowed = λ n. marked-none marks (map keyNumber keys) (m .keyed n) }
+opens f keys from rows marks m next = record { keyed = m .keyed; rowed = λ n. marked-none marks n }
 
 module _ (f : GroupFile) (from : ℕ) (r : Row) (marks : List ℕ) where
   -- a row is marked where there are marks
@@ -137,7 +133,7 @@ module _ (f : GroupFile) (from : ℕ) (r : Row) (marks : List ℕ) where
     key-more h next =
         record {
           keyed = λ n. rw (map-append keyNumber keys (named r ∷ [])) (marked-with (map keyNumber keys) (keyNumber (named r)) (rw h) (m .keyed) n);
-          rowed = λ n. marked-none (withRow f from r marks) (map keyNumber keys) (marked-on (map keyNumber keys) (m .keyed) n);
+          rowed = λ n. marked-none (withRow f from r marks) n;
         }
 
     -- another is a row more of its group

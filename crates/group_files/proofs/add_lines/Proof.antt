@@ -36,16 +36,14 @@ line-of-put c = c .before .before .before .before
 
 -- IT BEGINS
 loop-holds : tie.Need-loop-holds Inv-loop μ-loop
-loop-holds c =
-    let s = start-of-opening c in
-    (walk-start _ _ _ _ _ _ (s .pre .0) _ (s .pre .1) _ _ (c .before .no-keys .ensures) (c .opening .ensures), refl)
+loop-holds c = (walk-start _ _ _ _ _ _ (start-of-opening c .pre) _ _ _ (c .before .no-keys .ensures) (c .opening .ensures), refl)
 
 -- A LINE
 add-rows : tie.Need-add-rows Inv-loop μ-loop
 add-rows c =
     let l = loop-of-line c in
     let s = start-of-loop l in
-    omega (arith, walk-count _ _ _ _ _ _ (s .pre .0) _ _ _ _ _ (l .loop .inv .0), s .good)
+    omega (arith, walk-count _ _ _ _ _ _ (s .pre) _ _ _ _ _ (l .loop .inv .0), s .good)
 
 sub-group-line : tie.Need-sub-group-line Inv-loop μ-loop
 sub-group-line c = omega (arith, c .line-at .ensures .low)
@@ -60,21 +58,21 @@ group-line-requires : tie.Need-group-line-requires Inv-loop μ-loop
 group-line-requires c κs =
     let n = c .before .before .before in
     let l = loop-of-line n in
-    walk-beside _ _ _ _ _ _ (start-of-loop l .pre .0) _ _ _ _ _ (l .loop .inv .0) _ (n .line-at .ensures)
+    walk-beside _ _ _ _ _ _ (start-of-loop l .pre) _ _ _ _ _ (l .loop .inv .0) _ (n .line-at .ensures)
 
 -- it opens a group too early
 line-number-requires : tie.Need-line-number-requires Inv-loop μ-loop
 line-number-requires c κs =
     let l = loop-of-line (line-of-put (c .before .before .before .before .before .before)) in
     let s = start-of-loop l in
-    omega (arith, walk-count _ _ _ _ _ _ (s .pre .0) _ _ _ _ _ (l .loop .inv .0), s .good)
+    omega (arith, walk-count _ _ _ _ _ _ (s .pre) _ _ _ _ _ (l .loop .inv .0), s .good)
 
 returns : tie.Need-returns Inv-loop μ-loop
 returns c =
     let p = c .before .before .before .before .before .before .before in
     let n = line-of-put p in
     let l = loop-of-line n in
-    walk-early _ _ _ _ _ _ (start-of-loop l .pre .0) _ _ _ _ _ (l .loop .inv .0) _ (n .line-at .ensures) _ _ _ (p .group-line .ensures)
+    walk-early _ _ _ _ _ _ (start-of-loop l .pre) _ _ _ _ _ (l .loop .inv .0) _ (n .line-at .ensures) _ _ _ (p .group-line .ensures)
     (c .before .enum-told .given .1) _ (c .line-number .ensures)
 
 same-length-2 : tie.Need-same-length-2 Inv-loop μ-loop
@@ -88,14 +86,14 @@ line-number-requires-2 c κs =
     let n = line-of-put (c .before .before .before .before .before .before .before) in
     let l = loop-of-line n in
     let s = start-of-loop l in
-    omega (arith, walk-next _ _ _ _ _ _ (s .pre .0) _ _ _ _ _ (l .loop .inv .0) _ (n .line-at .ensures), s .good)
+    omega (arith, walk-next _ _ _ _ _ _ (s .pre) _ _ _ _ _ (l .loop .inv .0) _ (n .line-at .ensures), s .good)
 
 returns-2 : tie.Need-returns-2 Inv-loop μ-loop
 returns-2 c =
     let p = c .before .before .before .before .before .before .before .before in
     let n = line-of-put p in
     let l = loop-of-line n in
-    walk-refused _ _ _ _ _ _ (start-of-loop l .pre .0) _ _ _ _ _ (l .loop .inv .0) _ (n .line-at .ensures) _ _ _ (p .group-line .ensures) _
+    walk-refused _ _ _ _ _ _ (start-of-loop l .pre) _ _ _ _ _ (l .loop .inv .0) _ (n .line-at .ensures) _ _ _ (p .group-line .ensures) _
     (c .before .before .r .given .1) _ (c .line-number2 .ensures)
 
 same-length-4 : tie.Need-same-length-4 Inv-loop μ-loop
@@ -114,7 +112,7 @@ loop-again c =
     let p = c .before .before .before .before .before .before .before in
     let n = line-of-put p in
     let l = loop-of-line n in (
-      walk-goes _ _ _ _ _ _ (start-of-loop l .pre .0) _ _ _ _ _ (l .loop .inv .0) _ (n .line-at .ensures) _ _ _ (p .group-line .ensures) _
+      walk-goes _ _ _ _ _ _ (start-of-loop l .pre) _ _ _ _ _ (l .loop .inv .0) _ (n .line-at .ensures) _ _ _ (p .group-line .ensures) _
           (c .before .g .given .1),
       p .group-line .kept .1 .1 .1 .1 .1 .1 .1 .1 .1 .1 .1 .1 .1 .1 .0 ∙ l .loop .inv .1,
     )
@@ -124,20 +122,20 @@ line-number-requires-3 : tie.Need-line-number-requires-3 Inv-loop μ-loop
 line-number-requires-3 c κs =
     let l = c .before .before .before in
     let s = start-of-loop l in
-    omega (arith, walk-count _ _ _ _ _ _ (s .pre .0) _ _ _ _ _ (l .loop .inv .0), s .good)
+    omega (arith, walk-count _ _ _ _ _ _ (s .pre) _ _ _ _ _ (l .loop .inv .0), s .good)
 
 returns-3 : tie.Need-returns-3 Inv-loop μ-loop
 returns-3 c =
     let e = c .before .before in
     let l = e .before .before in
-    walk-short _ _ _ _ _ _ (start-of-loop l .pre .0) _ _ _ _ _ (l .loop .inv .0) (e .before .loop-test .left)
+    walk-short _ _ _ _ _ _ (start-of-loop l .pre) _ _ _ _ _ (l .loop .inv .0) (e .before .loop-test .left)
     (sym (e .may-end .ensures) ∙ not-true _ (c .before .if1 .taken)) _ (c .line-number3 .ensures)
 
 returns-4 : tie.Need-returns-4 Inv-loop μ-loop
 returns-4 c =
     let e = c .before .before in
     let l = e .before .before in
-    walk-ends _ _ _ _ _ _ (start-of-loop l .pre .0) _ _ _ _ _ (l .loop .inv .0) (e .before .loop-test .left)
+    walk-ends _ _ _ _ _ _ (start-of-loop l .pre) _ _ _ _ _ (l .loop .inv .0) (e .before .loop-test .left)
     (sym (e .may-end .ensures) ∙ not-false _ (c .before .if1 .left))
 
 pub add-lines-spec : {M : Type 1} → statement M
