@@ -31,8 +31,9 @@ fn line_number(before: usize) -> u64
     (before as u64) + 1
 }
 
-// The lines from `from` on, the first of which is line 2 of the file. The table holds the first line's row, and theirs come behind it.
-fn add_groups(
+// The lines from `from` on, the first of which is line 2 of the file. The table holds the first line's row, and theirs come behind it. Each row is
+// marked, where there are marks.
+fn add_lines(
     file: GroupFile,
     form: Form,
     text: &[u8],
@@ -45,6 +46,7 @@ fn add_groups(
     services: &[u64],
     places: &[u32],
     xfootnotes: &[u64],
+    marks: &mut [u8],
 ) -> RowsRead
     requires { ⌜ GroupsBegun file (now text) from (now t) ⌝ }
     ensures { λ r. ⌜ RowsDone (Groups file) form
@@ -77,6 +79,7 @@ fn add_groups(
             services,
             places,
             xfootnotes,
+            marks,
         ) {
             LinePut::Early => {
                 return RowsRead::Stopped(
@@ -103,6 +106,102 @@ fn add_groups(
     }
     let run = group.run;
     RowsRead::AllRead(run.rises)
+}
+
+// The same with marks, which are cleared before the first line.
+fn add_marked(
+    file: GroupFile,
+    form: Form,
+    text: &[u8],
+    from: usize,
+    t: &mut [u64],
+    counts: GroupCounts,
+    companies: &[u64],
+    modes: &[u64],
+    stations: &[u64],
+    services: &[u64],
+    places: &[u32],
+    xfootnotes: &[u64],
+) -> RowsRead
+    requires { ⌜ GroupsBegun file (now text) from (now t) ⌝ }
+    ensures { λ r. ⌜ RowsDone (Groups file) form
+        (λ c. GroupKeysAmong c counts (now (companies .entry)) (now (modes .entry)) (now (stations .entry)) (now (services .entry))
+        (now (xfootnotes .entry)))
+        (λ c. groupsVerdict c file (lines (drop from (now (text .entry))))) (firstIn file (now (t .entry)))
+        (map (rowOf form (Groups file)) (lines (drop from (now (text .entry))))) (now (t .entry)) (now (t .exit)) r ⌝ }
+{
+    let mut marks = [0u8; 524288];
+    add_lines(
+        file,
+        form,
+        text,
+        from,
+        t,
+        counts,
+        companies,
+        modes,
+        stations,
+        services,
+        places,
+        xfootnotes,
+        &mut marks,
+    )
+}
+
+// The same with marks where there may be many lines: few are sooner compared with each other than the marks are cleared.
+fn add_groups(
+    file: GroupFile,
+    form: Form,
+    text: &[u8],
+    from: usize,
+    t: &mut [u64],
+    counts: GroupCounts,
+    companies: &[u64],
+    modes: &[u64],
+    stations: &[u64],
+    services: &[u64],
+    places: &[u32],
+    xfootnotes: &[u64],
+) -> RowsRead
+    requires { ⌜ GroupsBegun file (now text) from (now t) ⌝ }
+    ensures { λ r. ⌜ RowsDone (Groups file) form
+        (λ c. GroupKeysAmong c counts (now (companies .entry)) (now (modes .entry)) (now (stations .entry)) (now (services .entry))
+        (now (xfootnotes .entry)))
+        (λ c. groupsVerdict c file (lines (drop from (now (text .entry))))) (firstIn file (now (t .entry)))
+        (map (rowOf form (Groups file)) (lines (drop from (now (text .entry))))) (now (t .entry)) (now (t .exit)) r ⌝ }
+{
+    if 8192 < text.len() {
+        return add_marked(
+            file,
+            form,
+            text,
+            from,
+            t,
+            counts,
+            companies,
+            modes,
+            stations,
+            services,
+            places,
+            xfootnotes,
+        );
+    }
+    let mut no_marks = [0u8; 1];
+    add_lines(
+        file,
+        form,
+        text,
+        from,
+        t,
+        counts,
+        companies,
+        modes,
+        stations,
+        services,
+        places,
+        xfootnotes,
+        &mut no_marks,
+    )
 }
 
 // The same for CHANGES, which alone names services: their places are found before the first line. There are 131071 first slots for them, which is a
