@@ -76,7 +76,8 @@ module _ (f : RowFile) (count : ℕ) (before : List ℕ) (counts : StationCounts
       }
 
 -- a line that is refused by its layout, and one whose row is read
-module _ (f : RowFile) (form : Form) (count : ℕ) (before : List ℕ) (counts : StationCounts) (countries zones : List ℕ) (l : Line) (was : List ℕ) (kind : Record) (k : kind ≡ rowRecord f)
+module _ (f : RowFile) (form : Form) (count : ℕ) (before : List ℕ) (counts : StationCounts) (countries zones : List ℕ) (l : Line) (was : List ℕ)
+    (kind : Record) (k : kind ≡ rowRecord f)
   where
     layout-is : (c : Context) → c .form ≡ form → layoutTest l (fieldsOf (c .form) (Rows f) (letter l)) ≡ layoutTest l (recordFields form kind)
     layout-is c d = rw (row-fields (c .form) f (letter l), d, k)

@@ -46,10 +46,10 @@ use Rattle.keys.proofs.Fills.{keys-in-fill, keys-next}
 use Rattle.text_numbers.specs.Numbers.{numbersOf}
 use Rattle.text_numbers.proofs.NumberLaws.{numbers-next}
 use Rattle.row_marks.specs.Remembered.{spreadOf, Remembers, LineMarked}
-use Rattle.reading.specs.Reading.{Begun, RowsDone}
+use Rattle.reading.specs.Reading.{Begun}
 use Rattle.reading.specs.declared.RowsRead.the-variants.{AllRead, Stopped}
 use Rattle.row_files.specs.Tests.{plainRowTest}
-use Rattle.row_files.specs.Plain.{firstIn, PlainBegun, PlainLine, Earlier, LineAdded, testOf, keptKey}
+use Rattle.row_files.specs.Plain.{firstIn, PlainBegun, RowsOf, PlainLine, Earlier, LineAdded, testOf, keptKey}
 use Rattle.row_files.specs.declared.RowKept.{RowKept}
 use Rattle.row_files.specs.declared.RowKept.the-variants.{Key, Refused}
 use Rattle.row_files.proofs.TestLaws.{plain-split}
@@ -189,7 +189,7 @@ module _ (f : RowFile) (form : Form) (text : List ℕ) (from : ℕ) (counts : St
         test-is c d e = l .test c d e (take j rest) (earlier c d)
 
         pub stops : (k : Reason) (n : ℕ) → r ≡ Refused k → n ≡ j + 2
-            → RowsDone (Rows f) form (λ c. StationKeysAmong c counts countries zones) (λ c. plainVerdict c f rest) (firstIn f was) (map (rowOf form (Rows f)) rest) was is (Stopped k (At (Rows f) 0 n))
+            → RowsOf f form (λ c. StationKeysAmong c counts countries zones) text from was is (Stopped k (At (Rows f) 0 n))
         stops k n p q =
             record {
               verdict = λ c d e. sym (turn c d e ∙ rw (← (test-is c d e), p, q));
@@ -271,8 +271,7 @@ module _ (f : RowFile) (form : Form) (text : List ℕ) (from : ℕ) (counts : St
       all-read : take j rest ≡ rest
       all-read = take-all j rest (omega (arith, ap length none-left, length-drop j rest))
 
-      pub ends : RowsDone (Rows f) form (λ c. StationKeysAmong c counts countries zones) (λ c. plainVerdict c f rest) (firstIn f was)
-          (map (rowOf form (Rows f)) rest) was t (AllRead (run .rises))
+      pub ends : RowsOf f form (λ c. StationKeysAmong c counts countries zones) text from was t (AllRead (run .rises))
       unfolding scan
       ends =
           record {

@@ -94,5 +94,5 @@ pub record PlainBegun (f : RowFile) (text : List ℕ) (from : ℕ) (t : List ℕ
 -- the rows that were read from `from` on
 abbrev pub RowsOf : RowFile → Form → (Context → Type 0) → List ℕ → ℕ → List ℕ → List ℕ → RowsRead → Type 0
 RowsOf f form Agree text from was is r =
-    RowsDone (Rows f) form Agree (λ c. plainVerdict c f (lines (drop from text))) (firstIn f was) (map (rowOf form (Rows f)) (lines (drop from text))) was
-    is r
+    RowsDone (Rows f) form Agree (λ c. plainVerdict c f (lines (drop from text))) (firstIn f was)
+    (map (rowOf form (Rows f)) (lines (drop from text))) was is r

@@ -67,6 +67,8 @@ module _ (f : RowFile) (line : List ℕ) (key : ℕ) (was once is : List ℕ) (n
   pub line-marked : LineMarked f line key was is
   line-marked =
       record {
-        keys = λ ns m q. fewer is (ns ++ (spreadOf key ∷ [])) (textNumbers f line) (t (ns ++ (spreadOf key ∷ [])) (rw (o, ← e) (marked-next was ns n (m wide))));
+        keys = λ ns m q.
+            let more = ns ++ (spreadOf key ∷ []) in
+            fewer is more (textNumbers f line) (t more (rw (o, ← e) (marked-next was ns n (m wide))));
         texts = λ ns m q. t ns (rw o (still-marked was ns n (m wide)));
       }

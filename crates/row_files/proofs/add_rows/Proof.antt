@@ -33,7 +33,8 @@ loop-holds : tie.Need-loop-holds Inv-loop μ-loop
 loop-holds c =
     let s = c .before .before .before .before .before .before .before in (
       rw (c .no-keys .ensures)
-          (starts (s .args .file) (s .args .form) (s .args .text .now) (s .args .from) (s .args .counts) (s .args .countries .now) (s .args .zones .now)
+          (starts (s .args .file) (s .args .form) (s .args .text .now) (s .args .from) (s .args .counts) (s .args .countries .now)
+          (s .args .zones .now)
           (s .args .t .now) (s .pre .0) (s .args .marks .now) (s .pre .1)),
       refl,
     )

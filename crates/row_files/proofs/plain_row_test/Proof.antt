@@ -88,10 +88,12 @@ plain-row-test-spec =
     (λ c.
     let a = c .before .before .before .before .before .before .before .before .before .before .before .before in
     omega (arith, widths (Rows (a .args .file)) .key, c .before .key-word .ensures, a .pre .width))
-    (λ c κs. let p = c .before .before .before .before .before .before .before .before .before .before .before .before .pre in (p .runs, p .marked .keys))
+    (λ c κs. let p = c .before .before .before .before .before .before .before .before .before .before .before .before .pre in
+    (p .runs, p .marked .keys))
     returns-2
     (λ c κs. c .before .before .before .before .before .before .before .before .before .before .before .before .before .before .pre .marked .texts)
     returns-3
-    (λ c κs. c .before .before .before .before .before .before .before .before .before .before .before .before .before .before .before .before .pre .width)
+    (λ c κs. c .before .before .before .before .before .before .before .before .before .before .before .before .before .before .before
+    .before .pre .width)
     returns-4
     returns-5)
