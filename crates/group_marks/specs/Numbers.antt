@@ -25,9 +25,9 @@ abbrev pub stirredIn : List (Row → ℕ) → ℕ → Row → ℕ
 stirredIn [] n r = n
 stirredIn (w ∷ ws) n r = stirredIn ws (stirred n (w r)) r
 
--- the number of a key: those of short names would else agree in their last letters, which are blanks
+-- the number of a key, brought below the prime again: short names differ in few of their letters, and must differ in the last digits of their numbers
 abbrev pub keyNumber : ℕ → ℕ
-keyNumber k = stirred 0 k
+keyNumber k = stirred k 0 % prime
 
 -- the number of a row in the group whose second row is row `from`: of what no two rows of the group may share. Where that is no matter of
 -- words that are the same, all rows have one number, which is no key's.

@@ -60,7 +60,7 @@ fn number_in(file: GroupFile, from: usize, row: &[u64]) -> u64
     ensures { λ r. ⌜ r ≡ numberIn file from (now (row .entry)) ⌝ }
 {
     if row[words::TAG] == iff::tags::HASH {
-        return stir(0, row[words::NAMED]);
+        return stir(row[words::NAMED], 0) % 2147483647;
     }
     row_number(file, from as u64, row)
 }

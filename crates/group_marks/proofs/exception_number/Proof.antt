@@ -1,6 +1,6 @@
 -- `group_marks::exception_number` meets its contract: the words are mixed in in the definition's order. Assumes nothing.
 use Prim.Native.Nat.{ℕ}
-use mathlib.Core.Path.{ap, _∙_}
+use mathlib.Core.Path.{_≡_, ap, _∙_}
 use borrow.Author.Needs.{needs}
 use Rattle.iff.specs.Words.{fromMode, toCompany, toMode, exceptionFootnote}
 use Rattle.group_marks.specs.Numbers.{stirred, rowNumber}
@@ -15,7 +15,8 @@ returns c =
     let d2 = d3 .before .before in
     let d1 = d2 .before .before in
     let row = d1 .before .before .before .args .row .now in
-    c .stir5 .ensures
+    let last : c .stir5 .result ≡ stirred (d4 .stir4 .result) (exceptionFootnote row) = c .stir5 .ensures in
+    last
     ∙ ap (λ (n : ℕ). stirred n (exceptionFootnote row))
     (d4 .stir4 .ensures
     ∙ ap (λ (n : ℕ). stirred n (toMode row))

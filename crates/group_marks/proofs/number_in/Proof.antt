@@ -1,9 +1,12 @@
 -- `group_marks::number_in` meets its contract: a `#` is asked for its key, another row for itself. Assumes nothing.
+use Prim.Native.Nat.{ℕ, _%_}
+use mathlib.Core.Path.{ap}
 use native.Mathlib.Omega.{arith}
 use borrow.Author.Needs.{needs}
 use borrow.Author.Tests.{eq-eqb, ne-eqb}
 use Rattle.iff.specs.declared.File.the-variants.{Groups}
 use Rattle.tables.proofs.Widths.{widths}
+use Rattle.group_marks.specs.Numbers.{prime}
 use Rattle.group_marks.proofs.number_in.Statement.{statement}
 use Rattle.group_marks.proofs.number_in.Tie as tie
 
@@ -18,7 +21,7 @@ shared-slice-read-stir c =
     omega (arith, widths (Groups (s .args .file)) .wide, s .pre)
 
 returns : tie.Need-returns
-returns c = rw (eq-eqb _ _ (c .before .before .if1 .taken)) (c .stir .ensures)
+returns c = rw (eq-eqb _ _ (c .before .before .if1 .taken)) (ap (λ (n : ℕ). n % prime) (c .stir .ensures))
 
 returns-2 : tie.Need-returns-2
 returns-2 c = rw (ne-eqb _ _ (c .before .if1 .left)) (c .row-number .ensures)
