@@ -132,7 +132,7 @@ fn read_platform(
         (now (block .entry)) n k row (now (t .entry)) at st before (now (t .exit)) r ⌝ }
 {
     let number = before + 1;
-    match quick_steps::put_line(
+    match quick_steps::put_platform(
         block[at],
         block,
         at,
