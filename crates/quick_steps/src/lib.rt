@@ -19,8 +19,6 @@ pub enum LinePut {
     Unsure,
 }
 
-// ONE LINE
-
 // 1 for a stop.
 fn stop_for(letter: u8) -> u64
     ensures { λ r. ⌜ (r ≡ one (isStop letter)) × (r ≤ 1) ⌝ }
