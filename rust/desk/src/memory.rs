@@ -2,7 +2,7 @@
 
 use std::ffi::c_void;
 use std::hint::black_box;
-use std::thread;
+use std::thread::{self, Builder};
 
 const PAGE: usize = 4096;
 
@@ -45,7 +45,8 @@ fn touch<T: Default>(zeros: &mut [T]) {
 }
 
 /// Does work on all parts of a slice at once, one for each processor where it is
-/// long. The work is told where its part begins; results are in their order.
+/// long. The work is told where its part begins; results are in their order, an
+/// error where a thread was not to be had.
 pub fn in_parts<T: Send, R: Send>(
     all: &mut [T],
     work: impl Fn(usize, &mut [T]) -> R + Sync,
@@ -61,9 +62,13 @@ pub fn in_parts<T: Send, R: Send>(
         let work = &work;
         let mut pieces = all.chunks_mut(length).zip((0..).step_by(length));
         let first = pieces.next();
-        let others: Vec<_> = pieces.map(|(part, start)| scope.spawn(move || work(start, part))).collect();
+        let begun = |(part, start)| Builder::new().spawn_scoped(scope, move || work(start, part));
+        let others: Vec<_> = pieces.map(begun).collect();
         let first = first.map(|(part, start)| Ok(work(start, part)));
-        first.into_iter().chain(others.into_iter().map(|other| other.join())).collect()
+        let done = others
+            .into_iter()
+            .map(|other| other.map_or_else(|error| Err(Box::new(error) as _), |other| other.join()));
+        first.into_iter().chain(done).collect()
     })
 }
 
