@@ -4,6 +4,8 @@ use native.Mathlib.Omega.{arith}
 use borrow.Author.Needs.{needs}
 use borrow.Author.Tests.{not-false}
 use Rattle.iff.specs.Columns.{pictureFrom}
+use Rattle.iff.specs.declared.RowFile.the-variants.{Stations}
+use Rattle.iff.specs.declared.File.the-variants.{Rows}
 use Rattle.tables.proofs.First.{found}
 use Rattle.quick_lines.specs.Pictures.{Pictured}
 use Rattle.quick_records.proofs.FieldLaws.{nothing, there, passed-told}
@@ -30,7 +32,7 @@ returns-4 c h =
           (sym (blank .before .all-blank .ensures) ∙ blank .if2 .left)
           _ (code .code .ensures);
       timed = refl;
-      met = there _ _ _ _ _ (hit .found-by-place .ensures) (ap found (c .enum-told .given .1));
+      met = there (Rows Stations) (a .used) (a .stations .now) (code .code .result) _ (hit .found-by-place .ensures) (ap found (c .enum-told .given .1));
     }
 
 pub passed-spec : {M : Type 1} → statement M

@@ -5,6 +5,9 @@ use native.Mathlib.Omega.{arith}
 use borrow.Author.Needs.{needs}
 use borrow.Author.Tests.{not-false}
 use Rattle.iff.specs.Columns.{pictureFrom}
+use Rattle.iff.specs.Times.{isTime}
+use Rattle.iff.specs.declared.RowFile.the-variants.{Stations}
+use Rattle.iff.specs.declared.File.the-variants.{Rows}
 use Rattle.iff_rules.specs.Meaning.{mostStops}
 use Rattle.tables.proofs.First.{found}
 use Rattle.quick_lines.specs.Pictures.{Pictured}
@@ -34,8 +37,8 @@ returns-6 c h =
           stop-told (a .text .now) (a .at) _ (a .n) refl (seen .before .looks .ensures (not-false _ (seen .if1 .left)))
           (sym (blank .before .all-blank .ensures) ∙ blank .if2 .left)
           _ _ (code .code .ensures) (number .number .ensures);
-      timed = in-time _ _ _ few (time .before .is-time .ensures) (not-false _ (time .if4 .left));
-      met = there _ _ _ _ _ (hit .found-by-place .ensures) (ap found (c .enum-told .given .1));
+      timed = in-time (a .stops) _ (isTime (number .number .result)) few (time .before .is-time .ensures) (not-false _ (time .if4 .left));
+      met = there (Rows Stations) (a .used) (a .stations .now) (code .code .result) _ (hit .found-by-place .ensures) (ap found (c .enum-told .given .1));
     }
 
 pub plain-stop-spec : {M : Type 1} → statement M

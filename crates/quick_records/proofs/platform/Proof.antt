@@ -4,6 +4,8 @@ use native.Mathlib.Omega.{arith}
 use borrow.Author.Needs.{needs}
 use borrow.Author.Tests.{not-false}
 use Rattle.iff.specs.Columns.{pictureFrom}
+use Rattle.iff.specs.declared.GroupFile.the-variants.{Footnote}
+use Rattle.iff.specs.declared.File.the-variants.{Groups}
 use Rattle.tables.proofs.First.{found}
 use Rattle.quick_lines.specs.Pictures.{Pictured}
 use Rattle.quick_records.proofs.FieldLaws.{nothing, there, platform-told}
@@ -28,7 +30,7 @@ returns-3 c h =
           platform-told (a .text .now) (a .at) _ (a .n) refl (seen .before .looks .ensures (not-false _ (seen .if1 .left)))
           _ (number .number .ensures);
       timed = refl;
-      met = there _ _ _ _ _ (hit .found-by-place .ensures) (ap found (c .enum-told .given .1));
+      met = there (Groups Footnote) (a .used) (a .footnotes .now) (number .number .result) _ (hit .found-by-place .ensures) (ap found (c .enum-told .given .1));
     }
 
 pub platform-spec : {M : Type 1} → statement M

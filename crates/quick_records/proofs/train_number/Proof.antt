@@ -4,6 +4,8 @@ use native.Mathlib.Omega.{arith}
 use borrow.Author.Needs.{needs}
 use borrow.Author.Tests.{not-false}
 use Rattle.iff.specs.Columns.{pictureFrom}
+use Rattle.iff.specs.declared.RowFile.the-variants.{Company}
+use Rattle.iff.specs.declared.File.the-variants.{Rows}
 use Rattle.tables.proofs.First.{found}
 use Rattle.quick_lines.specs.Pictures.{Pictured}
 use Rattle.quick_records.proofs.FieldLaws.{nothing, there, train-told}
@@ -31,7 +33,7 @@ returns-3 c h =
           train-told (a .text .now) (a .at) _ (a .n) refl (seen .before .looks .ensures (not-false _ (seen .if1 .left)))
           _ _ _ _ (number .number .ensures) (other .number2 .ensures) (first .stop-word .ensures) (last .stop-word2 .ensures);
       timed = refl;
-      met = there _ _ _ _ _ (hit .found-by-place .ensures) (ap found (c .enum-told .given .1));
+      met = there (Rows Company) (a .used) (a .companies .now) (number .number .result) _ (hit .found-by-place .ensures) (ap found (c .enum-told .given .1));
     }
 
 pub train-number-spec : {M : Type 1} → statement M

@@ -4,6 +4,8 @@ use native.Mathlib.Omega.{arith}
 use borrow.Author.Needs.{needs}
 use borrow.Author.Tests.{not-false}
 use Rattle.iff.specs.Columns.{pictureFrom}
+use Rattle.iff.specs.declared.RowFile.the-variants.{Trnsmode}
+use Rattle.iff.specs.declared.File.the-variants.{Rows}
 use Rattle.tables.proofs.First.{found}
 use Rattle.quick_lines.specs.Pictures.{Pictured}
 use Rattle.quick_records.proofs.FieldLaws.{nothing, there, transport-told}
@@ -32,7 +34,7 @@ returns-4 c h =
           (sym (blank .before .all-blank .ensures) ∙ blank .if2 .left)
           _ _ _ (code .code .ensures) (first .stop-word .ensures) (last .stop-word2 .ensures);
       timed = refl;
-      met = there _ _ _ _ _ (hit .found-by-place .ensures) (ap found (c .enum-told .given .1));
+      met = there (Rows Trnsmode) (a .used) (a .modes .now) (code .code .result) _ (hit .found-by-place .ensures) (ap found (c .enum-told .given .1));
     }
 
 pub transport-spec : {M : Type 1} → statement M
