@@ -1,12 +1,12 @@
 -- Soundness put together again: a chain of tests over the files, and the parts of the whole. Assumes nothing.
-use Prim.Native.Nat.{ℕ, zero, suc, _+_, _*_, _<_}
+use Prim.Native.Nat.{ℕ, zero, suc, _+_, _*_, _≤_, _<_}
 use mathlib.Core.Path.{_≡_, refl, ap, sym, _∙_}
 use mathlib.Core.List.{List, [], _∷_}
 use mathlib.Core.Bool.{Bool, true, false, _&&_, cond, and-true, and-false, false≢true}
 use native.Mathlib.Omega.{arith}
-use borrow.Author.Tests.{le-ltb, ltb-true}
+use borrow.Author.Tests.{le-ltb, lt-ltb, ltb-true, ltb-false}
 use lib.Dec.{ltb, leb}
-use lib.ListN.{length, drop}
+use lib.ListN.{length, getD, drop}
 use Rattle.iff.specs.Lists.{all, allOf, total, has}
 use Rattle.iff.specs.Files.{PerFile, of, inOrder, needed, limit}
 use Rattle.iff.specs.Columns.{form424}
@@ -25,6 +25,8 @@ use Rattle.keys.specs.Lookup.{keysIn}
 use Rattle.keys.proofs.Among.{keys-counted}
 use Rattle.references.specs.Agree.{StationKeys, GroupKeysAmong, BlockKeysAmong}
 use Rattle.sound.specs.declared.UsedRows.{UsedRows}
+use Rattle.walks.proofs.TableLaws.{tag-first}
+use Rattle.sound_blocks.proofs.UsedLaws.{room-ends, rows-end, row-used}
 use Rattle.sound_frames.specs.Frames.{framedRows, framed}
 use Rattle.sound_behind.specs.Behind.{behind}
 use Rattle.sound.specs.Whole.{Counted, there, allThere, butTimetbls, allFramed, allBehind, timetblsSound}
@@ -61,11 +63,11 @@ in-order p b1 b2 b3 b4 b5 b6 b7 b8 b9 b10 e1 e2 e3 e4 e5 e6 e7 e8 e9 e10 =
     ∙ ap (λ b. b && all (butTimetbls p) (drop 1 inOrder)) e1
 
 -- WHICH TABLES ARE THERE, by their rows counted
-abbrev pub byCounts : UsedRows → Bool
-byCounts u =
+abbrev pub byCounts : UsedRows → Bool → Bool
+byCounts u timetbls =
     (ltb 0 (u .delivery) && (ltb 0 (u .company) && ltb 0 (u .country)))
     && ((ltb 0 (u .trnsmode) && (ltb 0 (u .timezone) && ltb 0 (u .stations)))
-    && (ltb 0 (u .footnote) && (ltb 0 (u .timetbls) && cond (ltb 0 (u .xchanges)) (ltb 0 (u .xfootnote)) true)))
+    && (ltb 0 (u .footnote) && (timetbls && cond (ltb 0 (u .xchanges)) (ltb 0 (u .xfootnote)) true)))
 
 three-then : (a b c s : Bool) → ((a && (b && c)) && s) ≡ (a && (b && (c && s)))
 three-then true true c s = refl
@@ -76,16 +78,33 @@ last-three : (a b : Bool) → cond a b true ≡ (true && (cond a b true && (true
 last-three true b = sym (and-true b)
 last-three false b = refl
 
-pub counts-there : (T : PerFile (List ℕ)) (u : UsedRows) → Counted T u → byCounts u ≡ allThere (rowsOfTables T)
+pub counts-there : (T : PerFile (List ℕ)) (u : UsedRows) → Counted T u → (b : Bool) → b ≡ ltb 0 (length (rowsIn Timetbls (T .timetbls)))
+    → byCounts u b ≡ allThere (rowsOfTables T)
 unfolding allThere all
-counts-there T u k =
+counts-there T u k b m =
     let h : File → Bool = heldIn (rowsOfTables T) in
-    rw (k .delivery, k .company, k .country, k .trnsmode, k .timezone, k .stations, k .footnote, k .timetbls, k .xfootnote, k .xchanges)
+    rw (k .delivery, k .company, k .country, k .trnsmode, k .timezone, k .stations, k .footnote, m, k .xfootnote, k .xchanges)
     (three-then (h Delivery) (h (Rows Company)) (h (Rows Country)) _
     ∙ ap (λ s. h Delivery && (h (Rows Company) && (h (Rows Country) && s)))
     (three-then (h (Rows Trnsmode)) (h (Groups Timezone)) (h (Rows Stations)) _
     ∙ ap (λ s. h (Rows Trnsmode) && (h (Groups Timezone) && (h (Rows Stations) && (h (Groups Footnote) && (h Timetbls && s)))))
     (last-three (h (Groups Xchanges)) (h (Groups Xfootnote)))))
+
+-- TIMETBLS has rows where there is room for one and its first word is not 0
+module _ (t : List ℕ) where
+  pub no-room : length t < 7 → false ≡ ltb 0 (length (rowsIn Timetbls t))
+  no-room h = sym (le-ltb 0 _ (room-ends t 0 (omega arith) (omega arith)))
+
+  pub by-first-word : 7 ≤ length t → ltb 0 (getD t 0 0) ≡ ltb 0 (length (rowsIn Timetbls t))
+  by-first-word h = go (ltb 0 (getD t 0 0)) refl
+    where
+      go : (b : Bool) → ltb 0 (getD t 0 0) ≡ b → ltb 0 (getD t 0 0) ≡ ltb 0 (length (rowsIn Timetbls t))
+      go true e =
+          let some = ltb-true 0 (getD t 0 0) e in
+          e ∙ sym (lt-ltb 0 _ (row-used t 0 (omega arith) (omega arith) (getD t 0 0) (tag-first Timetbls t) (λ z. omega (arith, some))))
+      go false e =
+          let none = ltb-false 0 (getD t 0 0) e in
+          e ∙ sym (le-ltb 0 _ (rows-end t 0 (omega arith) (omega arith) (getD t 0 0) (tag-first Timetbls t) (omega (arith, none))))
 
 -- DELIVERY has its first line alone
 pub one-row : (c : Context) (rs : List Row) → ltb (length rs) 2 ≡ behind c Delivery rs
@@ -195,17 +214,17 @@ pub station-keys : (T : PerFile (List ℕ)) → StationKeys (contextOf (rowsOfTa
 unfolding contextOf
 station-keys T = record { countries = refl; zones = refl }
 
-pub group-keys : (T : PerFile (List ℕ)) (u : UsedRows) → Counted T u
+pub group-keys : (T : PerFile (List ℕ)) (u : UsedRows) → Counted T u → (services : ℕ) → services ≡ length (rowsIn Timetbls (T .timetbls))
     → GroupKeysAmong (contextOf (rowsOfTables T))
-    (record { companies = u .company; modes = u .trnsmode; stations = u .stations; services = u .timetbls; xfootnotes = u .xfootnote })
+    (record { companies = u .company; modes = u .trnsmode; stations = u .stations; services = services; xfootnotes = u .xfootnote })
     (T .company) (T .trnsmode) (T .stations) (T .timetbls) (T .xfootnote)
 unfolding contextOf
-group-keys T u k =
+group-keys T u k services m =
     record {
       companies = sym (keys-counted (Rows Company) (T .company) (u .company) (k .company));
       modes = sym (keys-counted (Rows Trnsmode) (T .trnsmode) (u .trnsmode) (k .trnsmode));
       stations = sym (keys-counted (Rows Stations) (T .stations) (u .stations) (k .stations));
-      services = sym (keys-counted Timetbls (T .timetbls) (u .timetbls) (k .timetbls));
+      services = sym (keys-counted Timetbls (T .timetbls) services m);
       xfootnotes = sym (keys-counted (Groups Xfootnote) (T .xfootnote) (u .xfootnote) (k .xfootnote));
     }
 

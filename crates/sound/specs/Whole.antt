@@ -1,4 +1,4 @@
--- The rows in use of eleven tables, counted; and soundness as it is asked: which tables are there, their frames, their rows behind the first lines'.
+-- The rows in use of ten tables, counted; and soundness as it is asked: which tables are there, their frames, their rows behind the first lines'.
 use Prim.Native.Nat.{ℕ}
 use mathlib.Core.Path.{_≡_}
 use mathlib.Core.List.{List}
@@ -18,7 +18,7 @@ use Rattle.sound_frames.specs.Frames.{framed}
 use Rattle.sound_behind.specs.Behind.{behind}
 use Rattle.sound.specs.declared.UsedRows.{UsedRows}
 
--- each count is that of its table
+-- each count is that of its table; TIMETBLS is not counted
 pub record Counted (T : PerFile (List ℕ)) (u : UsedRows) : Type 0 where
   pub delivery : u .delivery ≡ length (rowsIn Delivery (T .delivery))
   pub company : u .company ≡ length (rowsIn (Rows Company) (T .company))
@@ -27,7 +27,6 @@ pub record Counted (T : PerFile (List ℕ)) (u : UsedRows) : Type 0 where
   pub timezone : u .timezone ≡ length (rowsIn (Groups Timezone) (T .timezone))
   pub stations : u .stations ≡ length (rowsIn (Rows Stations) (T .stations))
   pub footnote : u .footnote ≡ length (rowsIn (Groups Footnote) (T .footnote))
-  pub timetbls : u .timetbls ≡ length (rowsIn Timetbls (T .timetbls))
   pub changes : u .changes ≡ length (rowsIn (Groups Changes) (T .changes))
   pub xfootnote : u .xfootnote ≡ length (rowsIn (Groups Xfootnote) (T .xfootnote))
   pub xchanges : u .xchanges ≡ length (rowsIn (Groups Xchanges) (T .xchanges))

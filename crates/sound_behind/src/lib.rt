@@ -13,9 +13,14 @@ ghost use lib.ListN.{length};
 ghost use Rattle.iff.specs.Tables.{rowsIn};
 ghost use Rattle.iff.specs.declared.File.the-variants.{Rows, Groups, Timetbls};
 ghost use Rattle.iff_rules.specs.Rows.{Context};
-ghost use Rattle.references.specs.Agree.{StationKeys, GroupKeysAmong, BlockKeysAmong};
-ghost use Rattle.sound_frames.specs.Frames.{framed};
-ghost use Rattle.sound_behind.specs.Behind.{behind};
+ghost use Rattle.references.specs.Agree.{StationKeys, GroupKeysAmong};
+ghost use Rattle.sound_behind.specs.Behind.{behind, BlocksJudged};
+
+// What is told of TIMETBLS: that it is right, and how many of its rows are in use.
+pub enum Judged {
+    Right(usize),
+    Wrong,
+}
 
 // A file of rows.
 pub fn are_rows_right(
@@ -82,10 +87,9 @@ pub fn are_groups_right(
     )
 }
 
-// TIMETBLS, its frame with it: what is told of its services is told where its blocks are tested.
-pub fn are_blocks_right(
+// TIMETBLS, its frame with it: its rows are counted and what is told of its services is told where its blocks are tested.
+pub fn judge_blocks(
     t: &[u64],
-    used: usize,
     delivery: &[u64],
     form: Form,
     counts: references::BlockCounts,
@@ -94,18 +98,16 @@ pub fn are_blocks_right(
     stations: &[u64],
     footnotes: &[u64],
     places: &mut [u32],
-) -> bool
-    requires { ⌜ (0 < used) × (used ≡ length (rowsIn Timetbls (now t))) × (5 ≤ length (now delivery)) ⌝ }
-    ensures { λ r. ⌜ ((c : Context)
-        → BlockKeysAmong c counts (now (companies .entry)) (now (modes .entry)) (now (stations .entry)) (now (footnotes .entry))
-        → r ≡ (framed form (now (delivery .entry)) Timetbls (now (t .entry)) && behind c Timetbls (rowsIn Timetbls (now (t .entry))))) ⌝ }
+) -> Judged
+    requires { ⌜ (0 < length (rowsIn Timetbls (now t))) × (5 ≤ length (now delivery)) ⌝ }
+    ensures { λ r. ⌜ BlocksJudged counts (now (companies .entry)) (now (modes .entry)) (now (stations .entry)) (now (footnotes .entry))
+        form (now (delivery .entry)) (now (t .entry)) r ⌝ }
 {
     if tables::word_or_zero(t, words::TAG) != tags::AT {
-        return false;
+        return Judged::Wrong;
     }
-    let sound_blocks::BlocksAre::Sound(rise) = sound_blocks::are_blocks_sound(
+    let sound_blocks::BlocksAre::Sound(used, rise) = sound_blocks::are_blocks_sound(
         t,
-        used,
         counts,
         companies,
         modes,
@@ -113,10 +115,13 @@ pub fn are_blocks_right(
         footnotes,
         places,
     ) else {
-        return false;
+        return Judged::Wrong;
     };
     if !tables::zero_from(t, used * tables::BLOCK_WIDTH) {
-        return false;
+        return Judged::Wrong;
     }
-    sound_frames::are_rows_framed_by(File::Timetbls, t, used, delivery, form, rise)
+    if !sound_frames::are_rows_framed_by(File::Timetbls, t, used, delivery, form, rise) {
+        return Judged::Wrong;
+    }
+    Judged::Right(used)
 }

@@ -60,28 +60,23 @@ module _ (counts : BlockCounts) (co mo st fo t : List ℕ) (used : ℕ) where
   Told = BlocksTold counts co mo st fo t used Unsound
 
   not-sound : AllSays counts co mo st fo t used false → Told
-  not-sound e = record { says = λ c g. rw (sym (e c g)); rise = λ b q. absurd (let z : _≡_ {A = ℕ} 0 1 = cc in omega arith) }
+  not-sound e = record { says = λ c g. rw (sym (e c g)); rows = λ n b q. absurd (let z : _≡_ {A = ℕ} 0 1 = cc in omega arith); rise = λ n b q. absurd (let z : _≡_ {A = ℕ} 0 1 = cc in omega arith) }
 
   not-distinct : distinct (keysAmong Timetbls used t) ≡ false → Told
-  not-distinct e = record { says = λ c g. rw (e, and-false); rise = λ b q. absurd (let z : _≡_ {A = ℕ} 0 1 = cc in omega arith) }
+  not-distinct e = record { says = λ c g. rw (e, and-false); rows = λ n b q. absurd (let z : _≡_ {A = ℕ} 0 1 = cc in omega arith); rise = λ n b q. absurd (let z : _≡_ {A = ℕ} 0 1 = cc in omega arith) }
 
-  -- a row before the first `#`
-  module _ (first : ℕ) (n : NextHead (rowWidth Timetbls) t 1 used first) where
-    pub stray-told : (first ≡ 1 → ⊥) → Told
-    stray-told e = not-sound (stray counts co mo st fo t used first n e)
-
-    pub going-first : first ≡ 1 → used * rowWidth Timetbls ≤ length t → isHashRow (rowAt (rowWidth Timetbls) t 0) ≡ false
-        → (ps : List ℕ) (run : KeyRun) → run ≡ noKeys → Going counts co mo st fo t used ps run 1 ps
-    going-first e r h ps run k =
-        record { left = starts counts co mo st fo t used first n e; services = none-indexed Timetbls used t ps r h run k }
+  pub going-first : 1 ≤ used → used * rowWidth Timetbls ≤ length t → isHashRow (rowAt (rowWidth Timetbls) t 0) ≡ false
+      → (ps : List ℕ) (run : KeyRun) → run ≡ noKeys → Going counts co mo st fo t used ps run 1 ps
+  going-first s r h ps run k = record { left = starts counts co mo st fo t used s; services = none-indexed Timetbls used t ps r h run k }
 
   module _ (ps : List ℕ) (run : KeyRun) (i : ℕ) (qs : List ℕ) (p : Going counts co mo st fo t used ps run i qs) where
-    pub going-last : used ≤ i → BlocksTold counts co mo st fo t used (Sound (run .rises)) × (length qs ≡ length ps)
+    pub going-last : used ≤ i → BlocksTold counts co mo st fo t used (Sound i (run .rises)) × (length qs ≡ length ps)
     going-last h =
         let k = all-told Timetbls used t ps run i qs (p .services) h in (
           record {
             says = λ c g. rw (sym (ends counts co mo st fo t used i (p .left) h c g), sym (k .0 .distinct));
-            rise = λ b q. let z : run .rises ≡ b = cc in sym z ∙ k .0 .rise refl;
+            rows = λ n b q. let z : i ≡ n = cc in omega (arith, p .left .high);
+            rise = λ n b q. let z : run .rises ≡ b = cc in sym z ∙ k .0 .rise refl;
           },
           k .1,
         )
@@ -89,26 +84,29 @@ module _ (counts : BlockCounts) (co mo st fo t : List ℕ) (used : ℕ) where
     pub slots-as-before : length qs ≡ length ps
     slots-as-before = p .services .index .wide
 
-    -- the block that begins in row i, and its service
-    module _ (l : i < used) (b : Tested) (told : BlockTold counts co mo st fo t i used b) where
-      pub block-unsound : b ≡ tested.Unsound → Told
-      block-unsound e = not-sound (unsound-block counts co mo st fo t used i (p .left) l b told e)
+    module _ (l : i < used) where
+      pub row-astray : isHashRow (rowAt (rowWidth Timetbls) t i) ≡ false → Told
+      row-astray e = not-sound (stray counts co mo st fo t used i (p .left) l e)
 
-      module _ (to : ℕ) (e : b ≡ tested.Sound to) (ms : List ℕ) (r : Next) (put : RowPut Timetbls t run i qs ms r) where
-        pub service-came : r ≡ Came → Told × (length ms ≡ length ps)
-        service-came q =
-            let k = again-told Timetbls used t ps run i qs (p .services) l ms r put q in
-            (not-distinct (sym (k .0 .distinct)), k .1)
+      -- the block that begins in row i, and its service
+      module _ (head : isHashRow (rowAt (rowWidth Timetbls) t i) ≡ true) (b : Tested) (told : BlockTold counts co mo st fo t i used b) where
+        pub block-unsound : b ≡ tested.Unsound → Told
+        block-unsound e = not-sound (unsound-block counts co mo st fo t used i (p .left) l head b told e)
 
-        pub going-on : (next : KeyRun) → r ≡ Goes next → Going counts co mo st fo t used ps next to ms
-        going-on next q =
-            record {
-              left = goes-on counts co mo st fo t used i (p .left) l b told to e;
-              services =
-                  let one = one-indexed Timetbls used t ps run i qs (p .services) l ms r put next q in
-                  none-between Timetbls used t ps next ms (i + 1) to (omega (arith, told .ended to e, told .next .low))
-                  (omega (arith, told .ended to e, told .next .high))
-                  (λ j low high. no-head-before (rowWidth Timetbls) t (suc i) used (told .end) (told .next) j (omega arith)
-                  (omega (arith, told .ended to e)))
-                  one;
-            }
+        module _ (to : ℕ) (e : b ≡ tested.Sound to) (ms : List ℕ) (r : Next) (put : RowPut Timetbls t run i qs ms r) where
+          pub service-came : r ≡ Came → Told × (length ms ≡ length ps)
+          service-came q =
+              let k = again-told Timetbls used t ps run i qs (p .services) l ms r put q in
+              (not-distinct (sym (k .0 .distinct)), k .1)
+
+          pub going-on : (next : KeyRun) → r ≡ Goes next → Going counts co mo st fo t used ps next to ms
+          going-on next q =
+              record {
+                left = goes-on counts co mo st fo t used i (p .left) l head b told to e;
+                services =
+                    none-between Timetbls used t ps next ms (i + 1) to (omega (arith, told .ended to e, told .next .low))
+                    (omega (arith, told .ended to e, told .next .high))
+                    (λ j low high. no-head-before (rowWidth Timetbls) t (suc i) used (told .end) (told .next) j (omega arith)
+                    (omega (arith, told .ended to e)))
+                    (one-indexed Timetbls used t ps run i qs (p .services) l ms r put next q);
+              }

@@ -13,6 +13,7 @@ use Rattle.iff.specs.declared.File.the-variants.{Rows}
 use Rattle.iff_rules.specs.Rows.{contextOf}
 use Rattle.iff_desk.specs.Sound.{rowsOfTables}
 use Rattle.keys.proofs.Among.{keys-counted}
+use Rattle.sound_behind.specs.Behind.{isRight}
 use Rattle.sound.specs.Whole.{timetblsSound}
 use Rattle.sound.proofs.WholeLaws.{form-is, block-keys, timetbls-held, not-framed, not-timetbls, not-behind, by-company}
 use Rattle.sound.proofs.are_all_sound.Statement.{statement}
@@ -25,19 +26,16 @@ start c = c .before .before .before .before .before .before .before .before .bef
 abbrev to-form : tie.After-are-framed → tie.After-form-of
 to-form c = c .before .before
 
-abbrev to-framed : tie.After-are-blocks-right → tie.After-are-framed
+abbrev to-framed : tie.After-judge-blocks → tie.After-are-framed
 to-framed c = c .before .before .before .before .before
 
-abbrev framed-if : tie.After-are-blocks-right → tie.Else1
+abbrev framed-if : tie.After-judge-blocks → tie.Else1
 framed-if c = c .before .before
 
-abbrev to-blocks : tie.After-are-right-behind → tie.After-are-blocks-right
-to-blocks c = c .before .before .before .before .before
+abbrev to-blocks : tie.After-are-right-behind → tie.After-judge-blocks
+to-blocks c = c .before .before .before .before .before .before .before
 
-abbrev blocks-if : tie.After-are-right-behind → tie.Else2
-blocks-if c = c .before .before
-
-abbrev from-blocks : tie.After-are-blocks-right → tie.Start
+abbrev from-blocks : tie.After-judge-blocks → tie.Start
 from-blocks c = start (to-form (to-framed c))
 
 -- the tables
@@ -47,13 +45,13 @@ tables s =
     eleven (a .delivery .now) (a .company .now) (a .country .now) (a .trnsmode .now) (a .timezone .now) (a .stations .now) (a .footnote .now) (a .timetbls .now) (a .changes .now) (a .xfootnote .now) (a .xchanges .now)
 
 -- TIMETBLS, as it was told
-timetbls-is : (c : tie.After-are-blocks-right)
-    → c .are-blocks-right .result
+timetbls-is : (c : tie.After-judge-blocks)
+    → isRight (c .judge-blocks .result)
     ≡ timetblsSound (contextOf (rowsOfTables (tables (from-blocks c)))) (to-form (to-framed c) .form-of .result) (from-blocks c .args .first .now)
     (from-blocks c .args .timetbls .now)
 timetbls-is c =
     let s = from-blocks c in
-    c .are-blocks-right .ensures (contextOf (rowsOfTables (tables s))) (block-keys (tables s) (s .args .used) (s .pre .0))
+    c .judge-blocks .ensures .says (contextOf (rowsOfTables (tables s))) (block-keys (tables s) (s .args .used) (s .pre .0))
 
 are-framed-requires : tie.Need-are-framed-requires
 are-framed-requires c κs =
@@ -69,21 +67,23 @@ returns c =
     not-framed (tables s) (s .args .first .now) (s .pre .1) _ (f .form-of .ensures) (s .pre .3)
     (sym (r .are-framed .ensures) ∙ not-true _ (c .if1 .taken))
 
-are-blocks-right-requires : tie.Need-are-blocks-right-requires
-are-blocks-right-requires c κs =
+judge-blocks-requires : tie.Need-judge-blocks-requires
+judge-blocks-requires c κs =
     let s = start (to-form (c .before .before .before .before)) in
-    (omega (arith, timetbls-held (tables s) (s .pre .3), s .pre .0 .timetbls), s .pre .0 .timetbls, s .pre .2)
+    (timetbls-held (tables s) (s .pre .3), s .pre .2)
 
 returns-2 : tie.Need-returns-2
 returns-2 c =
-    let b = c .before .before .before in
+    let b = c .before .before .before .before in
     let f = to-form (to-framed b) in
     let s = start f in
     not-timetbls (tables s) (s .args .first .now) (s .pre .1) _ (f .form-of .ensures) (s .pre .3)
-    (sym (timetbls-is b) ∙ not-true _ (c .if2 .taken))
+    (sym (timetbls-is b) ∙ ap isRight (c .enum-told .given .1))
 
 are-right-behind-requires : tie.Need-are-right-behind-requires
-are-right-behind-requires c κs = from-blocks (c .before .before .before .before) .pre .0
+are-right-behind-requires c κs =
+    let b = c .before .before .before .before .before .before in
+    (from-blocks b .pre .0, b .judge-blocks .ensures .rows _ (c .before .before .services .given .1))
 
 returns-3 : tie.Need-returns-3
 returns-3 c =
@@ -93,7 +93,7 @@ returns-3 c =
     let a = s .args in
     not-behind (tables s) (a .first .now) (s .pre .1) _ (f .form-of .ensures) (s .pre .3)
     (sym (h .are-right-behind .ensures (form-is (tables s) (a .first .now) (s .pre .1) _ (f .form-of .ensures) (s .pre .3)))
-    ∙ not-true _ (c .if3 .taken))
+    ∙ not-true _ (c .if2 .taken))
 
 returns-4 : tie.Need-returns-4
 returns-4 c =
@@ -108,9 +108,9 @@ returns-4 c =
     ∙ ap (has (ownCompany (a .first .now))) (keys-counted (Rows Company) (a .company .now) (a .used .company) (s .pre .0 .company))
     ∙ by-company (tables s) (a .first .now) (s .pre .1) _ (f .form-of .ensures) (s .pre .3)
     (sym (r .are-framed .ensures) ∙ not-false _ (framed-if b .if1 .left))
-    (sym (timetbls-is b) ∙ not-false _ (blocks-if h .if2 .left))
+    (sym (timetbls-is b) ∙ ap isRight (h .before .before .before .services .given .1))
     (sym (h .are-right-behind .ensures (form-is (tables s) (a .first .now) (s .pre .1) _ (f .form-of .ensures) (s .pre .3)))
-    ∙ not-false _ (i .if3 .left))
+    ∙ not-false _ (i .if2 .left))
 
 read-own : tie.Need-shared-slice-read-names-at
 read-own c = omega (arith, from-blocks (to-blocks (c .before .before .before)) .pre .2)
@@ -123,7 +123,9 @@ are-all-sound-spec =
     are-framed-requires
     (λ c. search needs)
     returns
-    are-blocks-right-requires
+    judge-blocks-requires
+    (λ c. search needs)
+    (λ c. search needs)
     (λ c. search needs)
     returns-2
     are-right-behind-requires

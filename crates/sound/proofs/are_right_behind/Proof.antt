@@ -17,31 +17,31 @@ abbrev start : tie.After-are-rows-right → tie.Start
 start c = c .before .before .before .before .before .before .before .before .before .before .before .before .before .before
 
 requires-1 : tie.Need-are-rows-right-requires
-requires-1 c κs = c .before .before .before .before .before .before .before .before .before .before .before .before .before .pre .company
+requires-1 c κs = c .before .before .before .before .before .before .before .before .before .before .before .before .before .pre .0 .company
 
 requires-2 : tie.Need-are-rows-right-requires-2
-requires-2 c κs = c .before .before .before .before .before .before .before .before .before .before .before .before .before .before .pre .country
+requires-2 c κs = c .before .before .before .before .before .before .before .before .before .before .before .before .before .before .pre .0 .country
 
 requires-3 : tie.Need-are-rows-right-requires-3
-requires-3 c κs = c .before .before .before .before .before .before .before .before .before .before .before .before .before .before .before .pre .trnsmode
+requires-3 c κs = c .before .before .before .before .before .before .before .before .before .before .before .before .before .before .before .pre .0 .trnsmode
 
 requires-4 : tie.Need-are-groups-right-requires
-requires-4 c κs = c .before .before .before .before .before .before .before .before .before .before .before .before .before .before .before .before .pre .timezone
+requires-4 c κs = c .before .before .before .before .before .before .before .before .before .before .before .before .before .before .before .before .pre .0 .timezone
 
 requires-5 : tie.Need-are-rows-right-requires-4
-requires-5 c κs = c .before .before .before .before .before .before .before .before .before .before .before .before .before .before .before .before .before .pre .stations
+requires-5 c κs = c .before .before .before .before .before .before .before .before .before .before .before .before .before .before .before .before .before .pre .0 .stations
 
 requires-6 : tie.Need-are-groups-right-requires-2
-requires-6 c κs = c .before .before .before .before .before .before .before .before .before .before .before .before .before .before .before .before .before .before .pre .footnote
+requires-6 c κs = c .before .before .before .before .before .before .before .before .before .before .before .before .before .before .before .before .before .before .pre .0 .footnote
 
 requires-7 : tie.Need-are-groups-right-requires-3
-requires-7 c κs = c .before .before .before .before .before .before .before .before .before .before .before .before .before .before .before .before .before .before .before .pre .changes
+requires-7 c κs = c .before .before .before .before .before .before .before .before .before .before .before .before .before .before .before .before .before .before .before .pre .0 .changes
 
 requires-8 : tie.Need-are-groups-right-requires-4
-requires-8 c κs = c .before .before .before .before .before .before .before .before .before .before .before .before .before .before .before .before .before .before .before .before .pre .xfootnote
+requires-8 c κs = c .before .before .before .before .before .before .before .before .before .before .before .before .before .before .before .before .before .before .before .before .pre .0 .xfootnote
 
 requires-9 : tie.Need-are-groups-right-requires-5
-requires-9 c κs = c .before .before .before .before .before .before .before .before .before .before .before .before .before .before .before .before .before .before .before .before .before .pre .xchanges
+requires-9 c κs = c .before .before .before .before .before .before .before .before .before .before .before .before .before .before .before .before .before .before .before .before .before .pre .0 .xchanges
 
 returns : tie.Need-returns
 unfolding allBehind
@@ -60,9 +60,9 @@ returns c form =
     let T = eleven (a .delivery .now) (a .company .now) (a .country .now) (a .trnsmode .now) (a .timezone .now) (a .stations .now) (a .footnote .now) (a .timetbls .now) (a .changes .now) (a .xfootnote .now) (a .xchanges .now) in
     let x = contextOf (rowsOfTables T) in
     let st = station-keys T in
-    let gr = group-keys T (a .used) (s .pre) in
+    let gr = group-keys T (a .used) (s .pre .0) (a .services) (s .pre .1) in
     in-order (λ f. behind x f (rowsIn f (of T f))) _ _ _ _ _ _ _ _ _ _
-    (ap (λ n. ltb n 2) (s .pre .delivery) ∙ one-row x (rowsIn Delivery (a .delivery .now)))
+    (ap (λ n. ltb n 2) (s .pre .0 .delivery) ∙ one-row x (rowsIn Delivery (a .delivery .now)))
     (c1 .are-rows-right .ensures x (sym form) st)
     (c2 .are-rows-right2 .ensures x (sym form) st)
     (c3 .are-rows-right3 .ensures x (sym form) st)
