@@ -7,7 +7,8 @@
  *              not `const`) nobody else reads either, and overlaps nothing else. Where the length is 0 the pointer may be any that is not
  *              NULL.
  *   alignment  uint64_t to 8 bytes, int32_t to 4. Memory of malloc has it.
- *   stack      A load takes some 1.2 MB of the calling thread's stack, a question or a soundness test 0.6 MB: give a thread 2 MB or more.
+ *   stack      A load takes up to 1.5 MB of the calling thread's stack, an amendment 1.1 MB, a question or a soundness test 0.6 MB, whatever they
+ *              are handed: give a thread 2 MB or more.
  *   threads    There is no state: calls on different memory may run at the same time, and so may questions on the same tables.
  *   room       A table's room in lines is its length divided by the words of its row (calyxcabin_width), rounded down. Tables are laid out in
  *              docs/TABLES.md, and may hold anything before a load.

@@ -24,7 +24,7 @@ use Rattle.iff_desk.specs.Parts.{isOneBlock}
 use Rattle.iff_desk.specs.Amend.{tableBlocks, placeOf, rowsBefore, rowsBehind, amendedRows}
 use Rattle.tables.proofs.Each.{Each}
 use Rattle.block_rows.proofs.RowLaws.{rows-count, key-skips}
-use Rattle.timetbls.proofs.GroupLaws.{front-closed}
+use Rattle.block_ends.proofs.GroupLaws.{front-closed}
 use Rattle.sound_laws.proofs.PassLaws.{Opens, total-append}
 use Rattle.sound_laws.proofs.PlainLaws.{Laid}
 use Rattle.sound_laws.proofs.TimetblsLaws.{blockOf, front-blocks, groups-blocks, keys-of-blocks, block-sizes}

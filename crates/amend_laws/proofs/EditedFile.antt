@@ -30,7 +30,7 @@ use Rattle.iff_desk.specs.Amend.{placeOf, editedLength, editedLines, amendedRow
 use Rattle.text.proofs.PictureLaws.{and-left}
 use Rattle.text.proofs.PackLaws.{Each as EachByte}
 use Rattle.tables.proofs.Each.{Each}
-use Rattle.timetbls.proofs.GroupLaws.{front-closed}
+use Rattle.block_ends.proofs.GroupLaws.{front-closed}
 use Rattle.sound_laws.proofs.PassLaws.{scan-each, each-group, each-entry, groups-open, Opens}
 use Rattle.sound_laws.proofs.PlainLaws.{InBytes, Laid}
 use Rattle.sound_laws.proofs.TextLaws.{lines-bytes, some-lines}

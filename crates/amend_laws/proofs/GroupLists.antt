@@ -10,7 +10,7 @@ use lib.Seq.{set-split}
 use Rattle.iff.specs.Lists.{Group, front, groups, members, flat, all, any, kept, position}
 use Rattle.iff_laws.specs.TruthLaws.{both}
 use Rattle.tables.proofs.Each.{Each, each-append}
-use Rattle.timetbls.proofs.GroupLaws.{front-past, groups-past, groups-first, front-open}
+use Rattle.block_ends.proofs.GroupLaws.{front-past, groups-past, groups-first, front-open}
 use Rattle.sound_laws.proofs.PassLaws.{each-all, Opens}
 
 -- EACH, of a part of a list

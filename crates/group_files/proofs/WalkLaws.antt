@@ -1,6 +1,6 @@
 -- The walk through the lines of a file of groups: where it begins, a line further, and its ends. Assumes nothing.
 use Prim.Native.Nat.{ℕ, zero, suc, _+_, _-_, _*_, _≤_, _<_}
-use mathlib.Core.Path.{_≡_, refl, ap, sym, _∙_}
+use mathlib.Core.Path.{_≡_, refl, ap, sym, _∙_, subst}
 use mathlib.Core.List.{List, [], _∷_, _++_, map, map-append}
 use mathlib.Core.Bool.{Bool, true, false}
 use native.Mathlib.Nat.{suc-mul, mul-le-mul-right}
@@ -36,13 +36,15 @@ use Rattle.keys.specs.Lookup.{keysIn}
 use Rattle.fresh_keys.specs.Runs.{noKeys, runOf}
 use Rattle.fresh_keys.specs.declared.KeyRun.{KeyRun}
 use Rattle.fresh_keys.proofs.Runs.{run-rises, run-key}
-use Rattle.keys.proofs.Fills.{keys-in-fill, keys-same}
+use Rattle.keys.proofs.Fills.{keys-in-fill, keys-same, keys-next}
 use Rattle.keys.proofs.Blocks.{between-in-fill}
 use Rattle.reading.specs.Reading.{RowsDone}
 use Rattle.reading.specs.declared.RowsRead.{RowsRead}
 use Rattle.reading.specs.declared.RowsRead.the-variants.{AllRead, Stopped}
+use Rattle.group_marks.specs.Numbers.{Remembered, withRow}
+use Rattle.group_marks.proofs.NumberLaws.{none-remembered, opens, key-more, rest-more}
 use Rattle.group_lines.specs.Tests.{joins}
-use Rattle.group_lines.specs.Facts.{openRows, Beside, opening, groupFor, putVerdict, lineDue, PutThere, LineDone}
+use Rattle.group_lines.specs.Facts.{openRows, openFrom, Beside, opening, groupFor, putVerdict, lineDue, PutThere, LineDone}
 use Rattle.group_lines.specs.declared.Open.{Open}
 use Rattle.group_lines.specs.declared.LinePut.{LinePut}
 use Rattle.group_lines.specs.declared.LinePut.the-variants.{Put, Early, Refused}
@@ -73,7 +75,7 @@ module _ (f : GroupFile) (form : Form) (from : ℕ) (text : List ℕ) where
 
 -- what is left is the whole: j lines have been read, `at` is where the next begins
 pub record Walk (f : GroupFile) (form : Form) (from : ℕ) (text t₀ : List ℕ) (Agree : Context → Type 0)
-    (at j : ℕ) (g : Open) (t : List ℕ) : Type 0 where
+    (at j : ℕ) (g : Open) (t marks : List ℕ) : Type 0 where
   pub inside : at ≤ length text
   pub few : j ≤ length (lines (drop from text))
   pub here : lines (drop at text) ≡ drop j (lines (drop from text))
@@ -82,6 +84,8 @@ pub record Walk (f : GroupFile) (form : Form) (from : ℕ) (text t₀ : List ℕ
   pub used : Each (Used (rowWidth (Groups f))) (firstIn f t₀ ∷ rowsTo f form from text j)
   pub stands : g .stand ≡ groupStand (openTo f form from text j g)
   pub runs : g .run ≡ runOf (keysOf (Groups f) (rowsTo f form from text j))
+  pub marked :
+      Remembered f (keysOf (Groups f) (rowsTo f form from text j)) (openFrom (j + 1) (g .size)) (drop 1 (openTo f form from text j g)) marks
   pub left :
       (c : Context) → c .form ≡ form → Agree c
       → groupsVerdict c f (lines (drop from text))
@@ -104,16 +108,16 @@ module _ (f : GroupFile) (form : Form) (from : ℕ) (text t₀ : List ℕ) (Agre
   abbrev upTo : ℕ → List Row
   upTo j = rowsTo f form from text j
 
-  abbrev Walks : ℕ → ℕ → Open → List ℕ → Type 0
-  Walks at j g t = Walk f form from text t₀ Agree at j g t
+  abbrev Walks : ℕ → ℕ → Open → List ℕ → List ℕ → Type 0
+  Walks at j g t marks = Walk f form from text t₀ Agree at j g t marks
 
   abbrev Done : List ℕ → RowsRead → Type 0
   Done t r = RowsDone (Groups f) form Agree (λ c. groupsVerdict c f all) first (map rowIn all) t₀ t r
 
   -- IT BEGINS with no lines read and no group open
-  pub walk-start : (run : KeyRun) (g : Open) → run ≡ noKeys → g ≡ opening run → Walks from 0 g t₀
+  pub walk-start : (marks : List ℕ) (run : KeyRun) (g : Open) → run ≡ noKeys → g ≡ opening run → Walks from 0 g t₀ marks
   unfolding kept after
-  walk-start run g e o =
+  walk-start marks run g e o =
       rw o
       (record {
         inside = G .inside;
@@ -124,11 +128,12 @@ module _ (f : GroupFile) (form : Form) (from : ℕ) (text t₀ : List ℕ) (Agre
         used = ((G .begun .width, G .begun .used), tt);
         stands = sym stand-none;
         runs = e;
+        marked = none-remembered f (openFrom 1 0) marks;
         left = λ c d a. groups-flat c f all;
         kept = refl;
       })
 
-  module _ (at j : ℕ) (g : Open) (t : List ℕ) (W : Walks at j g t) where
+  module _ (at j : ℕ) (g : Open) (t marks : List ℕ) (W : Walks at j g t marks) where
     abbrev opened : List Row
     opened = drop (j - g .size) (upTo j)
 
@@ -181,7 +186,7 @@ module _ (f : GroupFile) (form : Form) (from : ℕ) (text t₀ : List ℕ) (Agre
       pub walk-next : j + 1 < length t₀
       walk-next = omega (arith, room, many (j + 1) w (widths (Groups f) .some), widths (Groups f) .some)
 
-      pub walk-beside : Beside f (j + 1) g t
+      pub walk-beside : Beside f (j + 1) g t marks
       walk-beside =
           record {
             part = omega (arith, W .part);
@@ -189,6 +194,7 @@ module _ (f : GroupFile) (form : Form) (from : ℕ) (text t₀ : List ℕ) (Agre
             room = rw (W .kept) room;
             stands = W .stands ∙ ap groupStand (sym open-here);
             runs = W .runs ∙ ap runOf (sym keys-here);
+            marked = rw (keys-here, open-here) (W .marked);
           }
 
       parts : getD all j noLine ∷ drop (suc j) all ≡ line ∷ lines (drop (s .next) text)
@@ -203,10 +209,12 @@ module _ (f : GroupFile) (form : Form) (from : ℕ) (text t₀ : List ℕ) (Agre
           rw (add-one, take-suc all j noLine inside, e) (map-append rowIn (take j all) (line ∷ []))
 
       -- the open group's rows and the keys, a line further
-      record OpenNext (g′ : Open) : Type 0 where
+      record OpenNext (g′ : Open) (with : List ℕ) : Type 0 where
         part : g′ .size ≤ j + 1
         rows : joins opened line ++ (rowIn line ∷ []) ≡ drop (j + 1 - g′ .size) (upTo (j + 1))
         runs : g′ .run ≡ runOf (keysOf (Groups f) (upTo (j + 1)))
+        marked :
+            Remembered f (keysOf (Groups f) (upTo (j + 1))) (openFrom (j + 1 + 1) (g′ .size)) (drop 1 (joins opened line ++ (rowIn line ∷ []))) with
 
       -- the walk by what the line's verdict is
       turn : (c : Context) → c .form ≡ form → Agree c
@@ -217,7 +225,8 @@ module _ (f : GroupFile) (form : Form) (from : ℕ) (text t₀ : List ℕ) (Agre
           let n : suc (length (upTo j)) ≡ j + 1 = omega (arith, rows-length) in
           W .left c d a ∙ rw (head, n, d, tail, grown, keys-here, open-here)
 
-      module _ (t′ : List ℕ) (r : LinePut) (D : LineDone f form (j + 1) (groupFor g line) Agree (lineDue f (j + 1) g line t) line t t′ r) where
+      module _ (t′ with : List ℕ) (r : LinePut)
+          (D : LineDone f form (j + 1) (groupFor g line) Agree (lineDue f (j + 1) g line t) line t t′ marks with r) where
         -- it is at fault, or the line before it
         walk-stops : (a : Reason) (p : Place) → putVerdict f (j + 1) r ≡ Fault a p → Done t′ (Stopped a p)
         walk-stops a p q =
@@ -238,7 +247,7 @@ module _ (f : GroupFile) (form : Form) (from : ℕ) (text t₀ : List ℕ) (Agre
 
         -- or stands in the table
         module _ (g′ : Open) (q : r ≡ Put g′) where
-          P : PutThere f form (j + 1) (groupFor g line) line t t′ g′
+          P : PutThere f form (j + 1) (groupFor g line) line t t′ marks with g′
           P = D .put g′ q
 
           table-next : t′ ≡ fill w (length t₀) (first ∷ upTo (j + 1))
@@ -263,8 +272,12 @@ module _ (f : GroupFile) (form : Form) (from : ℕ) (text t₀ : List ℕ) (Agre
               ap (λ (o : Open). o .stand) (P .group)
               ∙ (ap groupMoves (stood (isHash line) refl) ∙ sym (stand-next (joins opened line) (rowIn line)))
 
+          -- the marks, by how many rows the group had
+          marks-next : (size : ℕ) → groupFor g line .size ≡ size → with ≡ withRow f (openFrom (j + 1) size) (rowIn line) marks
+          marks-next size e = P .marked ∙ ap (λ (s : ℕ). withRow f (openFrom (j + 1) s) (rowIn line) marks) e
+
           -- its rows, and the keys, by whether the line is a `#`
-          next : (b : Bool) → isHash line ≡ b → OpenNext g′
+          next : (b : Bool) → isHash line ≡ b → OpenNext g′ with
           next true h =
               let m : g′ .size ≡ 0 + 1 = ap (λ (o : Open). o .size) (P .group) ∙ rw h in
               let z : j + 1 - g′ .size ≡ j = omega arith in
@@ -273,18 +286,27 @@ module _ (f : GroupFile) (form : Form) (from : ℕ) (text t₀ : List ℕ) (Agre
                 part = omega arith;
                 rows = rw (h, z, grown) (sym (drop-at (upTo j) (rowIn line ∷ []) j rows-length));
                 runs = ap (λ (o : Open). o .run) (P .group) ∙ rw (h, k, W .runs, grown, run-key (Groups f) (upTo j) (rowIn line) k);
+                marked =
+                    rw (marks-next 0 (rw h), h, grown, keys-next (Groups f) (upTo j) (rowIn line) k)
+                    (key-more f (openFrom (j + 1) 0) (rowIn line) marks (keysOf (Groups f) (upTo j)) []
+                    (opens f (keysOf (Groups f) (upTo j)) (openFrom (j + 1) (g .size)) (drop 1 opened) marks (W .marked) (openFrom (j + 1) 0)) k
+                    (openFrom (j + 1 + 1) (g′ .size)));
               }
           next false h =
               let m : g′ .size ≡ g .size + 1 = ap (λ (o : Open). o .size) (P .group) ∙ rw h in
               let z : j + 1 - g′ .size ≡ j - g .size = omega (arith, W .part) in
+              let y : j + 1 + 1 - g′ .size ≡ j + 1 - g .size = omega (arith, W .part) in
               let k : eqb (tag (rowIn line)) hash ≡ false = row-hash f form line ∙ h in
               record {
                 part = omega (arith, W .part);
                 rows = rw (h, z, grown) (sym (drop-append-le (j - g .size) (upTo j) (rowIn line ∷ []) (omega (arith, rows-length))));
                 runs = ap (λ (o : Open). o .run) (P .group) ∙ rw (h, k, W .runs, grown, keys-same (Groups f) (upTo j) (rowIn line) k);
+                marked =
+                    rw (marks-next (g .size) (rw h), h, y, grown, keys-same (Groups f) (upTo j) (rowIn line) k)
+                    (rest-more f (openFrom (j + 1) (g .size)) (rowIn line) marks k (keysOf (Groups f) (upTo j)) opened (W .marked));
               }
 
-          pub walk-goes : Walks (s .next) (j + 1) g′ t′
+          pub walk-goes : Walks (s .next) (j + 1) g′ t′ with
           walk-goes =
               let n = next (isHash line) refl in
               record {
@@ -296,6 +318,10 @@ module _ (f : GroupFile) (form : Form) (from : ℕ) (text t₀ : List ℕ) (Agre
                 used = used-next;
                 stands = stands-next ∙ ap groupStand (n .rows);
                 runs = n .runs;
+                marked =
+                    subst
+                    (λ (rs : List Row). Remembered f (keysOf (Groups f) (upTo (j + 1))) (openFrom (j + 1 + 1) (g′ .size)) (drop 1 rs) with)
+                    (n .rows) (n .marked);
                 left = λ c d x. turn c d x ∙ rw (sym (D .verdict c d x) ∙ ap (putVerdict f (j + 1)) q, n .rows);
                 kept = D .kept ∙ W .kept;
               }

@@ -31,8 +31,9 @@ fn line_number(before: usize) -> u64
     (before as u64) + 1
 }
 
-// The lines from `from` on, the first of which is line 2 of the file. The table holds the first line's row, and theirs come behind it.
-fn add_groups(
+// The lines from `from` on, the first of which is line 2 of the file. The table holds the first line's row, and theirs come behind it. Each row is
+// marked, where there are marks.
+fn add_lines(
     file: GroupFile,
     form: Form,
     text: &[u8],
@@ -45,6 +46,7 @@ fn add_groups(
     services: &[u64],
     places: &[u32],
     xfootnotes: &[u64],
+    marks: &mut [u8],
 ) -> RowsRead
     requires { ⌜ GroupsBegun file (now text) from (now t) ⌝ }
     ensures { λ r. ⌜ RowsDone (Groups file) form
@@ -77,6 +79,7 @@ fn add_groups(
             services,
             places,
             xfootnotes,
+            marks,
         ) {
             LinePut::Early => {
                 return RowsRead::Stopped(
@@ -105,8 +108,105 @@ fn add_groups(
     RowsRead::AllRead(run.rises)
 }
 
-// The same for CHANGES, which alone names services: their places are found before the first line. There are 131071 first slots for them, which is a
-// prime number, and as many more as are tried for a key.
+// The same with marks, which are cleared before the first line.
+fn add_marked(
+    file: GroupFile,
+    form: Form,
+    text: &[u8],
+    from: usize,
+    t: &mut [u64],
+    counts: GroupCounts,
+    companies: &[u64],
+    modes: &[u64],
+    stations: &[u64],
+    services: &[u64],
+    places: &[u32],
+    xfootnotes: &[u64],
+) -> RowsRead
+    requires { ⌜ GroupsBegun file (now text) from (now t) ⌝ }
+    ensures { λ r. ⌜ RowsDone (Groups file) form
+        (λ c. GroupKeysAmong c counts (now (companies .entry)) (now (modes .entry)) (now (stations .entry)) (now (services .entry))
+        (now (xfootnotes .entry)))
+        (λ c. groupsVerdict c file (lines (drop from (now (text .entry))))) (firstIn file (now (t .entry)))
+        (map (rowOf form (Groups file)) (lines (drop from (now (text .entry))))) (now (t .entry)) (now (t .exit)) r ⌝ }
+{
+    let mut marks = [0u8; 524288];
+    add_lines(
+        file,
+        form,
+        text,
+        from,
+        t,
+        counts,
+        companies,
+        modes,
+        stations,
+        services,
+        places,
+        xfootnotes,
+        &mut marks,
+    )
+}
+
+// The same with marks where there may be many lines: few are sooner compared with each other than the marks are cleared.
+fn add_groups(
+    file: GroupFile,
+    form: Form,
+    text: &[u8],
+    from: usize,
+    t: &mut [u64],
+    counts: GroupCounts,
+    companies: &[u64],
+    modes: &[u64],
+    stations: &[u64],
+    services: &[u64],
+    places: &[u32],
+    xfootnotes: &[u64],
+) -> RowsRead
+    requires { ⌜ GroupsBegun file (now text) from (now t) ⌝ }
+    ensures { λ r. ⌜ RowsDone (Groups file) form
+        (λ c. GroupKeysAmong c counts (now (companies .entry)) (now (modes .entry)) (now (stations .entry)) (now (services .entry))
+        (now (xfootnotes .entry)))
+        (λ c. groupsVerdict c file (lines (drop from (now (text .entry))))) (firstIn file (now (t .entry)))
+        (map (rowOf form (Groups file)) (lines (drop from (now (text .entry))))) (now (t .entry)) (now (t .exit)) r ⌝ }
+{
+    if 8192 < text.len() {
+        return add_marked(
+            file,
+            form,
+            text,
+            from,
+            t,
+            counts,
+            companies,
+            modes,
+            stations,
+            services,
+            places,
+            xfootnotes,
+        );
+    }
+    let mut no_marks = [0u8; 1];
+    add_lines(
+        file,
+        form,
+        text,
+        from,
+        t,
+        counts,
+        companies,
+        modes,
+        stations,
+        services,
+        places,
+        xfootnotes,
+        &mut no_marks,
+    )
+}
+
+// The same for CHANGES, which alone names services: their places are found before the first line. There are 90001 first slots for them, which is a
+// prime number, and as many more as are tried for a key: of 60,000 services next to every one has a place, and with the marks of the rows and what
+// TIMETBLS had the stack of a load stays under 1.5 MB.
 fn add_placed(
     file: GroupFile,
     form: Form,
@@ -127,7 +227,7 @@ fn add_placed(
         (λ c. groupsVerdict c file (lines (drop from (now (text .entry))))) (firstIn file (now (t .entry)))
         (map (rowOf form (Groups file)) (lines (drop from (now (text .entry))))) (now (t .entry)) (now (t .exit)) r ⌝ }
 {
-    let mut places = [0u32; 131135];
+    let mut places = [0u32; 90065];
     keys::index_services(services, counts.services, &mut places);
     add_groups(
         file,
@@ -145,7 +245,7 @@ fn add_placed(
     )
 }
 
-// The lines of any file of groups, with the rows in use of the other tables counted before the first, and not again.
+// The lines of any file of groups, with the rows in use of the other tables counted before the first, and not again; those of the services are known.
 fn read_groups(
     file: GroupFile,
     form: Form,
@@ -157,15 +257,16 @@ fn read_groups(
     stations: &[u64],
     services: &[u64],
     xfootnotes: &[u64],
+    service_rows: usize,
 ) -> RowsRead
     requires { ⌜ GroupsBegun file (now text) from (now t) ⌝ }
     ensures { λ r. ⌜ RowsDone (Groups file) form
-        (λ c. GroupKeys c (now (companies .entry)) (now (modes .entry)) (now (stations .entry)) (now (services .entry))
+        (λ c. GroupKeys c «service_rows» (now (companies .entry)) (now (modes .entry)) (now (stations .entry)) (now (services .entry))
         (now (xfootnotes .entry)))
         (λ c. groupsVerdict c file (lines (drop from (now (text .entry))))) (firstIn file (now (t .entry)))
         (map (rowOf form (Groups file)) (lines (drop from (now (text .entry))))) (now (t .entry)) (now (t .exit)) r ⌝ }
 {
-    let counts = references::count_for_groups(companies, modes, stations, services, xfootnotes);
+    let counts = references::count_for_groups(companies, modes, stations, service_rows, xfootnotes);
     if let GroupFile::Changes = file {
         return add_placed(
             file,
@@ -198,7 +299,8 @@ fn read_groups(
     )
 }
 
-// A whole file of groups, after a verdict on what came before it: a fault is handed on, and an absent file has none.
+// A whole file of groups, after a verdict on what came before it: a fault is handed on, and an absent file has none. Services are looked up in the
+// first `service_rows` rows of their table, which a caller who has read them has counted.
 pub fn read_group_file(
     file: GroupFile,
     v: Verdict,
@@ -211,10 +313,11 @@ pub fn read_group_file(
     stations: &[u64],
     services: &[u64],
     xfootnotes: &[u64],
+    service_rows: usize,
 ) -> Verdict
     requires { ⌜ (fine v ≡ true → Ready (Groups file) (now text) (now t)) ⌝ }
     ensures { λ r. ⌜ FileRead (Groups file) form
-        (λ c. GroupKeys c (now (companies .entry)) (now (modes .entry)) (now (stations .entry)) (now (services .entry))
+        (λ c. GroupKeys c «service_rows» (now (companies .entry)) (now (modes .entry)) (now (stations .entry)) (now (services .entry))
         (now (xfootnotes .entry)))
         (now (header .entry)) (now (text .entry)) v (now (t .entry)) (now (t .exit)) r ⌝ }
 {
@@ -238,6 +341,7 @@ pub fn read_group_file(
                         stations,
                         services,
                         xfootnotes,
+                        service_rows,
                     ) {
                         RowsRead::Stopped(r, p) => Verdict::Fault(r, p),
                         RowsRead::AllRead(rises) => {

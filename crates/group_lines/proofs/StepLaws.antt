@@ -4,10 +4,10 @@ use mathlib.Core.Path.{_≡_, refl, ap, sym, _∙_}
 use mathlib.Core.List.{List, []}
 use mathlib.Core.Bool.{true, false}
 use native.Mathlib.Omega.{arith}
-use lib.ListN.{length}
+use lib.ListN.{length, drop}
 use Rattle.iff.specs.Refusals.{orTest, verdictAt, after}
 use Rattle.iff.specs.Lines.{Line, isHash}
-use Rattle.iff.specs.Tables.{tag, rowWidth, putRow}
+use Rattle.iff.specs.Tables.{Row, tag, rowWidth, putRow}
 use Rattle.iff.specs.Words.{named}
 use Rattle.iff.specs.declared.GroupFile.{GroupFile}
 use Rattle.iff.specs.declared.File.the-variants.{Groups}
@@ -23,8 +23,10 @@ use Rattle.iff_rules.specs.Load.{groupTest}
 use Rattle.keys.specs.Lookup.{keysIn}
 use Rattle.keys.specs.Blocks.{blockOfRows}
 use Rattle.fresh_keys.specs.declared.KeyRun.{KeyRun}
+use Rattle.group_marks.specs.Numbers.{withRow}
+use Rattle.group_marks.proofs.NumberLaws.{opens}
 use Rattle.group_lines.specs.Tests.{groupRowTest, lineVerdict}
-use Rattle.group_lines.specs.Facts.{openRows, Beside, opening, groupFor, runAfter, openAfter}
+use Rattle.group_lines.specs.Facts.{openRows, openFrom, Beside, opening, groupFor, runAfter, openAfter}
 use Rattle.group_lines.specs.Facts.{RowMade, RowTested, addDue, lineDue, LineDone}
 use Rattle.group_lines.specs.declared.Open.{Open}
 use Rattle.group_lines.specs.declared.LinePut.{LinePut}
@@ -39,7 +41,7 @@ early-not g e = let z : _≡_ {A = ℕ} 0 1 = cc in omega arith
 refused-not : (r : Reason) (g : Open) → Refused r ≡ Put g → ⊥
 refused-not r g e = let z : _≡_ {A = ℕ} 0 1 = cc in omega arith
 
-module _ (f : GroupFile) (form : Form) (rows : ℕ) (g : Open) (Agree : Context → Type 0) (l : Line) (t : List ℕ) (b : Beside f rows g t) where
+module _ (f : GroupFile) (form : Form) (rows : ℕ) (g : Open) (Agree : Context → Type 0) (l : Line) (t marks : List ℕ) (b : Beside f rows g t marks) where
   abbrev seen : List ℕ
   seen = keysIn (Groups f) t
 
@@ -74,7 +76,7 @@ module _ (f : GroupFile) (form : Form) (rows : ℕ) (g : Open) (Agree : Context 
 
   -- the table after it
   module _ (was is : List ℕ) (p : Test) (m : RowTested f form rows g Agree l t was is p) where
-    pub put-not : (r : Reason) → p ≡ Fails r → LineDone f form rows g Agree (addDue f rows g l t) l t t (Refused r)
+    pub put-not : (r : Reason) → p ≡ Fails r → LineDone f form rows g Agree (addDue f rows g l t) l t t marks marks (Refused r)
     put-not r q =
         record {
           verdict = λ c d a. ap (verdictAt (At (Groups f) 0 (suc rows))) (sym q ∙ m .test c d a);
@@ -83,19 +85,21 @@ module _ (f : GroupFile) (form : Form) (rows : ℕ) (g : Open) (Agree : Context 
         }
 
     pub put-there : length was ≡ rowWidth (Groups f) → p ≡ Passes → (t′ : List ℕ) → t′ ≡ putRow (length is) t rows is → length t′ ≡ length t
-        → (next : Open) → next ≡ openAfter g (tag is) (named is) → LineDone f form rows g Agree (addDue f rows g l t) l t t′ (Put next)
-    put-there w q t′ e k next z =
+        → (with : List ℕ) → with ≡ withRow f (openFrom rows (g .size)) is marks
+        → (next : Open) → next ≡ openAfter g (tag is) (named is) → LineDone f form rows g Agree (addDue f rows g l t) l t t′ marks with (Put next)
+    put-there w q t′ e k with x next z =
         let s : is ≡ rowOf form (Groups f) l = m .row q in
         let n : length is ≡ rowWidth (Groups f) = m .kept ∙ w in
         record {
           verdict = λ c d a. ap (verdictAt (At (Groups f) 0 (suc rows))) (sym q ∙ m .test c d a);
-          put = λ a x.
+          put = λ a p.
               (let i : a ≡ next = cc in
               record {
                 group = i ∙ (z ∙ rw s);
                 table = e ∙ rw (n, s);
                 wide = rw (← s) n;
                 used = m .used q;
+                marked = x ∙ ap (λ (r : Row). withRow f (openFrom rows (g .size)) r marks) s;
               });
           kept = k;
         }
@@ -112,17 +116,27 @@ open-none f t rows =
     let z : rows - (rows - 0) ≡ 0 = omega arith in
     rw z
 
-pub begin-group : (f : GroupFile) (rows : ℕ) (g : Open) (t : List ℕ) → Beside f rows g t → (next : Open) → next ≡ opening (g .run)
-    → Beside f rows next t
+pub begin-group : (f : GroupFile) (rows : ℕ) (g : Open) (t marks : List ℕ) → Beside f rows g t marks → (next : Open)
+    → next ≡ opening (g .run) → Beside f rows next t marks
 unfolding groupStand after
-begin-group f rows g t b next e =
-    rw e (record { part = omega arith; few = b .few; room = b .room; stands = rw (open-none f t rows); runs = b .runs })
+begin-group f rows g t marks b next e =
+    rw e
+    (record {
+      part = omega arith;
+      few = b .few;
+      room = b .room;
+      stands = rw (open-none f t rows);
+      runs = b .runs;
+      marked =
+          rw (open-none f t rows)
+          (opens f (keysIn (Groups f) t) (openFrom rows (g .size)) (drop 1 (openRows f t rows (g .size))) marks (b .marked) (openFrom rows 0));
+    })
 
 -- a line after a group
-module _ (f : GroupFile) (form : Form) (rows : ℕ) (g : Open) (Agree : Context → Type 0) (l : Line) (t : List ℕ) (b : Beside f rows g t) where
+module _ (f : GroupFile) (form : Form) (rows : ℕ) (g : Open) (Agree : Context → Type 0) (l : Line) (t marks : List ℕ) (b : Beside f rows g t marks) where
   -- it opens the next too early
   pub line-early : isHash l ≡ true → mayEnd f (g .stand) ≡ false
-      → LineDone f form rows (groupFor g l) Agree (lineDue f rows g l t) l t t Early
+      → LineDone f form rows (groupFor g l) Agree (lineDue f rows g l t) l t t marks marks Early
   unfolding lineVerdict
   line-early x q =
       record {
@@ -132,11 +146,11 @@ module _ (f : GroupFile) (form : Form) (rows : ℕ) (g : Open) (Agree : Context 
       }
 
   -- it opens the next
-  pub line-opens : isHash l ≡ true → mayEnd f (g .stand) ≡ true → (next : Open) → next ≡ opening (g .run) → (is : List ℕ) (r : LinePut)
-      → LineDone f form rows next Agree (addDue f rows next l t) l t is r
-      → LineDone f form rows (groupFor g l) Agree (lineDue f rows g l t) l t is r
+  pub line-opens : isHash l ≡ true → mayEnd f (g .stand) ≡ true → (next : Open) → next ≡ opening (g .run) → (is with : List ℕ)
+      (r : LinePut) → LineDone f form rows next Agree (addDue f rows next l t) l t is marks with r
+      → LineDone f form rows (groupFor g l) Agree (lineDue f rows g l t) l t is marks with r
   unfolding lineVerdict
-  line-opens x q next e is r s =
+  line-opens x q next e is with r s =
       record {
         verdict = λ c d a. s .verdict c d a ∙ rw (x, ← b .stands, q, e, open-none f t rows);
         put = λ a n. rw (x, ← e) (s .put a n);
@@ -144,10 +158,11 @@ module _ (f : GroupFile) (form : Form) (rows : ℕ) (g : Open) (Agree : Context 
       }
 
   -- or stands in it
-  pub line-joins : isHash l ≡ false → (is : List ℕ) (r : LinePut) → LineDone f form rows g Agree (addDue f rows g l t) l t is r
-      → LineDone f form rows (groupFor g l) Agree (lineDue f rows g l t) l t is r
+  pub line-joins : isHash l ≡ false → (is with : List ℕ) (r : LinePut)
+      → LineDone f form rows g Agree (addDue f rows g l t) l t is marks with r
+      → LineDone f form rows (groupFor g l) Agree (lineDue f rows g l t) l t is marks with r
   unfolding lineVerdict
-  line-joins x is r s =
+  line-joins x is with r s =
       record {
         verdict = λ c d a. s .verdict c d a ∙ rw x;
         put = λ a n. rw x (s .put a n);

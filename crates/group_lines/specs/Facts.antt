@@ -4,7 +4,7 @@ use mathlib.Core.Path.{_≡_}
 use mathlib.Core.List.{List}
 use mathlib.Core.Bool.{false, cond}
 use lib.Dec.{eqb}
-use lib.ListN.{length}
+use lib.ListN.{length, drop}
 use Rattle.iff.specs.Bytes.{hash}
 use Rattle.iff.specs.Refusals.{verdictAt, orTest}
 use Rattle.iff.specs.Lines.{Line, letter, isHash}
@@ -30,6 +30,7 @@ use Rattle.keys.specs.Lookup.{keysIn}
 use Rattle.fresh_keys.specs.Runs.{stepRun, runOf}
 use Rattle.keys.specs.Blocks.{rowsBetween}
 use Rattle.fresh_keys.specs.declared.KeyRun.{KeyRun}
+use Rattle.group_marks.specs.Numbers.{Remembered, withRow}
 use Rattle.group_lines.specs.Tests.{placeTest, lineVerdict}
 use Rattle.group_lines.specs.declared.Open.{Open}
 use Rattle.group_lines.specs.declared.LinePut.{LinePut}
@@ -40,13 +41,18 @@ use Rattle.group_lines.specs.declared.LinePut.the-variants.{Put, Early, 
 abbrev pub openRows : GroupFile → List ℕ → ℕ → ℕ → List Row
 openRows f t rows size = rowsBetween (rowWidth (Groups f)) t (rows - size) rows
 
--- a table of some rows, the last of them the open group's, with room for one more
-pub record Beside (f : GroupFile) (rows : ℕ) (g : Open) (t : List ℕ) : Type 0 where
+-- and the place of the second of them
+abbrev pub openFrom : ℕ → ℕ → ℕ
+openFrom rows size = rows - size + 1
+
+-- a table of some rows, the last of them the open group's, with room for one more; its keys are marked, and the open group's rows but for its `#`
+pub record Beside (f : GroupFile) (rows : ℕ) (g : Open) (t marks : List ℕ) : Type 0 where
   pub part : g .size ≤ rows
   pub few : rows < length t
   pub room : rows * rowWidth (Groups f) + rowWidth (Groups f) ≤ length t
   pub stands : g .stand ≡ groupStand (openRows f t rows (g .size))
   pub runs : g .run ≡ runOf (keysIn (Groups f) t)
+  pub marked : Remembered f (keysIn (Groups f) t) (openFrom rows (g .size)) (drop 1 (openRows f t rows (g .size))) marks
 
 -- one that has no rows yet, after others with some keys
 abbrev pub opening : KeyRun → Open
@@ -93,16 +99,17 @@ addDue f rows g l t c = verdictAt (At (Groups f) 0 (suc rows)) (groupTest c f (k
 abbrev pub lineDue : GroupFile → ℕ → Open → Line → List ℕ → Context → Verdict
 lineDue f rows g l t c = lineVerdict c f (keysIn (Groups f) t) (openRows f t rows (g .size)) rows l
 
--- its row stands in the table, and is in use
-pub record PutThere (f : GroupFile) (form : Form) (rows : ℕ) (g : Open) (l : Line) (was is : List ℕ) (after : Open) : Type 0 where
+-- its row stands in the table, is in use, and is marked
+pub record PutThere (f : GroupFile) (form : Form) (rows : ℕ) (g : Open) (l : Line) (was is marks with : List ℕ) (after : Open) : Type 0 where
   pub group : after ≡ openAfter g (tag (rowOf form (Groups f) l)) (named (rowOf form (Groups f) l))
   pub table : is ≡ putRow (rowWidth (Groups f)) was rows (rowOf form (Groups f) l)
   pub wide : length (rowOf form (Groups f) l) ≡ rowWidth (Groups f)
   pub used : eqb (tag (rowOf form (Groups f) l)) 0 ≡ false
+  pub marked : with ≡ withRow f (openFrom rows (g .size)) (rowOf form (Groups f) l) marks
 
 -- the verdict for every context of that form that agrees with the tables that were looked into
 pub record LineDone (f : GroupFile) (form : Form) (rows : ℕ) (g : Open) (Agree : Context → Type 0) (due : Context → Verdict) (l : Line)
-    (was is : List ℕ) (r : LinePut) : Type 0 where
+    (was is marks with : List ℕ) (r : LinePut) : Type 0 where
   pub verdict : (c : Context) → c .form ≡ form → Agree c → putVerdict f rows r ≡ due c
-  pub put : (after : Open) → r ≡ Put after → PutThere f form rows g l was is after
+  pub put : (after : Open) → r ≡ Put after → PutThere f form rows g l was is marks with after
   pub kept : length is ≡ length was

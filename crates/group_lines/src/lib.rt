@@ -84,17 +84,27 @@ fn make_row(
     }
 }
 
-// A `#` names a key that no group before it has; another row shares with none of its group what no two may.
-fn is_unique(file: GroupFile, rows: usize, group: Open, row: &[u64], t: &[u64]) -> bool
-    requires { ⌜ Beside file rows group (now t) × (length (now row) ≡ rowWidth (Groups file)) ⌝ }
+// A `#` names a key that no group before it has; another row shares with none of its group what no two may. Most are told to be new by their marks.
+fn is_unique(
+    file: GroupFile,
+    rows: usize,
+    group: Open,
+    row: &[u64],
+    t: &[u64],
+    marks: &[u8],
+) -> bool
+    requires { ⌜ Beside file rows group (now t) (now marks) × (length (now row) ≡ rowWidth (Groups file)) ⌝ }
     ensures { λ r. ⌜ r ≡ (freshKey (Groups file) (keysIn (Groups file) (now (t .entry))) (now (row .entry))
         && freshInGroup file (drop 1 (openRows file (now (t .entry)) rows (group .size))) (now (row .entry))) ⌝ }
 {
+    let from = rows - group.size + 1;
+    if group_marks::is_told_new(file, from, row, marks) {
+        return true;
+    }
     if row[iff::words::TAG] == iff::tags::HASH {
         let run = group.run;
         return fresh_keys::is_fresh(File::Groups(file), run, t, row[iff::words::NAMED]);
     }
-    let from = rows - group.size + 1;
     clashes::fresh_in_group(file, t, from, rows, row)
 }
 
@@ -112,8 +122,9 @@ fn row_test(
     services: &[u64],
     places: &[u32],
     xfootnotes: &[u64],
+    marks: &[u8],
 ) -> Test
-    requires { ⌜ Beside file rows group (now t) × (length (now row) ≡ rowWidth (Groups file)) ⌝ }
+    requires { ⌜ Beside file rows group (now t) (now marks) × (length (now row) ≡ rowWidth (Groups file)) ⌝ }
     ensures { λ r. ⌜ ((c : Context) → GroupKeysAmong c counts (now (companies .entry)) (now (modes .entry)) (now (stations .entry))
         (now (services .entry)) (now (xfootnotes .entry))
         → r ≡ groupRowTest c file (keysIn (Groups file) (now (t .entry))) (openRows file (now (t .entry)) rows (group .size))
@@ -122,7 +133,7 @@ fn row_test(
     if !meanings::group_means(file, row) {
         return Test::Fails(Reason::Value);
     }
-    if !is_unique(file, rows, group, row, t) {
+    if !is_unique(file, rows, group, row, t, marks) {
         return Test::Fails(Reason::Duplicate);
     }
     if !references::met_in_group(
@@ -158,8 +169,9 @@ fn test_row(
     places: &[u32],
     xfootnotes: &[u64],
     row: &mut [u64],
+    marks: &[u8],
 ) -> Test
-    requires { ⌜ Beside file rows group (now t) × (length (now row) ≡ rowWidth (Groups file)) ⌝ }
+    requires { ⌜ Beside file rows group (now t) (now marks) × (length (now row) ≡ rowWidth (Groups file)) ⌝ }
     ensures { λ r. ⌜ RowTested file form rows group
         (λ c. GroupKeysAmong c counts (now (companies .entry)) (now (modes .entry)) (now (stations .entry)) (now (services .entry))
         (now (xfootnotes .entry)))
@@ -181,6 +193,7 @@ fn test_row(
             services,
             places,
             xfootnotes,
+            marks,
         ),
     }
 }
@@ -211,7 +224,7 @@ fn open_after(group: Open, tag: u64, key: u64) -> Open
     }
 }
 
-// Puts a line to a group, where its tests pass: its row goes behind the `rows` rows of the table.
+// Puts a line to a group, where its tests pass: its row goes behind the `rows` rows of the table, and is marked.
 fn add_row(
     file: GroupFile,
     form: Form,
@@ -228,13 +241,14 @@ fn add_row(
     places: &[u32],
     xfootnotes: &[u64],
     row: &mut [u64],
+    marks: &mut [u8],
 ) -> LinePut
-    requires { ⌜ Beside file rows group (now t) × (length (now row) ≡ rowWidth (Groups file)) ⌝ }
+    requires { ⌜ Beside file rows group (now t) (now marks) × (length (now row) ≡ rowWidth (Groups file)) ⌝ }
     ensures { λ r. ⌜ LineDone file form rows group
         (λ c. GroupKeysAmong c counts (now (companies .entry)) (now (modes .entry)) (now (stations .entry)) (now (services .entry))
         (now (xfootnotes .entry)))
         (addDue file rows group (lineOf (now (line .entry)) ended) (now (t .entry)))
-        (lineOf (now (line .entry)) ended) (now (t .entry)) (now (t .exit)) r ⌝ }
+        (lineOf (now (line .entry)) ended) (now (t .entry)) (now (t .exit)) (now (marks .entry)) (now (marks .exit)) r ⌝ }
 {
     match test_row(
         file,
@@ -252,10 +266,13 @@ fn add_row(
         places,
         xfootnotes,
         row,
+        marks,
     ) {
         Test::Fails(r) => LinePut::Refused(r),
         Test::Passes => {
             tables::put_row(t, row.len(), rows, row);
+            let from = rows - group.size + 1;
+            group_marks::remember(file, from, row, marks);
             let after = open_after(group, row[iff::words::TAG], row[iff::words::NAMED]);
             LinePut::Put(after)
         }
@@ -278,13 +295,14 @@ fn add_line(
     services: &[u64],
     places: &[u32],
     xfootnotes: &[u64],
+    marks: &mut [u8],
 ) -> LinePut
-    requires { ⌜ Beside file rows group (now t) ⌝ }
+    requires { ⌜ Beside file rows group (now t) (now marks) ⌝ }
     ensures { λ r. ⌜ LineDone file form rows group
         (λ c. GroupKeysAmong c counts (now (companies .entry)) (now (modes .entry)) (now (stations .entry)) (now (services .entry))
         (now (xfootnotes .entry)))
         (addDue file rows group (lineOf (now (line .entry)) ended) (now (t .entry)))
-        (lineOf (now (line .entry)) ended) (now (t .entry)) (now (t .exit)) r ⌝ }
+        (lineOf (now (line .entry)) ended) (now (t .entry)) (now (t .exit)) (now (marks .entry)) (now (marks .exit)) r ⌝ }
 {
     let mut row = [0u64; iff::limits::WIDEST_ROW];
     let w = tables::row_width(File::Groups(file));
@@ -304,6 +322,7 @@ fn add_line(
         places,
         xfootnotes,
         &mut row[..w],
+        marks,
     )
 }
 
@@ -323,13 +342,14 @@ pub fn group_line(
     services: &[u64],
     places: &[u32],
     xfootnotes: &[u64],
+    marks: &mut [u8],
 ) -> LinePut
-    requires { ⌜ Beside file rows group (now t) ⌝ }
+    requires { ⌜ Beside file rows group (now t) (now marks) ⌝ }
     ensures { λ r. ⌜ LineDone file form rows (groupFor group (lineOf (now (line .entry)) ended))
         (λ c. GroupKeysAmong c counts (now (companies .entry)) (now (modes .entry)) (now (stations .entry)) (now (services .entry))
         (now (xfootnotes .entry)))
         (lineDue file rows group (lineOf (now (line .entry)) ended) (now (t .entry)))
-        (lineOf (now (line .entry)) ended) (now (t .entry)) (now (t .exit)) r ⌝ }
+        (lineOf (now (line .entry)) ended) (now (t .entry)) (now (t .exit)) (now (marks .entry)) (now (marks .exit)) r ⌝ }
 {
     if text::first_byte(line) == b'#' {
         let stand = group.stand;
@@ -353,6 +373,7 @@ pub fn group_line(
             services,
             places,
             xfootnotes,
+            marks,
         );
     }
     add_line(
@@ -370,5 +391,6 @@ pub fn group_line(
         services,
         places,
         xfootnotes,
+        marks,
     )
 }

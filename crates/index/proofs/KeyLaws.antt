@@ -18,11 +18,11 @@ use Rattle.fresh_keys.specs.declared.KeyRun.{KeyRun}
 use Rattle.keys.specs.Blocks.{blockOfRows, rowsBetween}
 use Rattle.keys.specs.Lookup.{isKeyRow, keysAmong}
 use Rattle.keys.specs.Places.{probes, placeOf}
-use Rattle.fresh_keys.specs.Runs.{noKeys, stepRun, runOf}
+use Rattle.fresh_keys.specs.Runs.{noKeys, stillRises, stepRun, runOf}
 use Rattle.keys.proofs.Among.{keys-there}
 use Rattle.keys.proofs.Blocks.{between-first, between-next}
 use Rattle.keys.proofs.Fills.{keys-next, keys-same}
-use Rattle.fresh_keys.proofs.Runs.{run-rises}
+use Rattle.fresh_keys.proofs.Runs.{run-fresh, run-next, run-rises}
 use Rattle.index.specs.Told.{KeysTold}
 use Rattle.index.specs.Slots.{lastRow, namesAt, keyAt, keysBetween, Stands, PassedFor, FirstFree}
 use Rattle.index.specs.Keying.{allNew, AtRow, KeyPut, Told, RowPut, Indexed}
@@ -30,19 +30,28 @@ use Rattle.index.specs.declared.Next.{Next}
 use Rattle.index.specs.declared.Next.the-variants.{Came, Goes}
 use Rattle.index.proofs.SlotLaws.{starts, one-more, new-by-free, put-indexed, full-indexed}
 
+-- a key with which the keys so far still rise is new
+pub new-by-run : (f : File) (t : List ℕ) (i : ℕ) (run next : KeyRun) (key : ℕ) → run ≡ runOf (keysBetween f t 0 i) → next ≡ stepRun run key
+    → next .rises ≡ true → true ≡ not (has key (keysBetween f t 0 i))
+new-by-run f t i run next key e n r =
+    let q : stillRises (runOf (keysBetween f t 0 i)) key ≡ true =
+    ap (λ (s : KeyRun). stillRises s key) (sym e) ∙ (sym (ap (λ (s : KeyRun). s .rises) n) ∙ r)
+    in
+    sym (ap not (run-fresh (keysBetween f t 0 i) key q))
+
 -- ONE KEY
-module _ (f : File) (t : List ℕ) (i key : ℕ) (ps : List ℕ) (a : AtRow f t i ps) (is : key ≡ keyAt f t i) where
-  room-before : i * rowWidth f ≤ length t
+module _ (f : File) (t : List ℕ) (run : KeyRun) (i key : ℕ) (ps : List ℕ) (a : AtRow f t run i ps) (is : key ≡ keyAt f t i) where
+  pub room-before : i * rowWidth f ≤ length t
   room-before = omega (arith, a .room)
 
   -- the rows before it are searched, and it is not put where it would have to stand nowhere
-  pub searched : (b : Bool) → b ≡ has key (keysAmong f i t)
+  pub searched : (b : Bool) → b ≡ not (has key (keysBetween f t 0 i))
       → (namesAt f t i ≡ true → i ≤ lastRow → probes < length ps → Stands (length ps) ps (keyAt f t i) i)
-      → KeyPut f t i key ps ps (not b)
+      → KeyPut f t i key ps ps b
   searched b e g =
       record {
         wide = refl;
-        new = ap not (e ∙ ap (has key) (keys-there f t i room-before));
+        new = e;
         index = λ n. one-more f t i (length ps) ps (a .index) g;
       }
 
@@ -55,13 +64,13 @@ module _ (f : File) (t : List ℕ) (i key : ℕ) (ps : List ℕ) (a : AtRow f t 
           index = λ n. put-indexed f t i (length ps) ps (a .index) wide few key (a .some) (sym is) s free;
         }
 
-    pub searched-full : (b : Bool) → b ≡ has key (keysAmong f i t)
+    pub searched-full : (b : Bool) → b ≡ not (has key (keysBetween f t 0 i))
         → PassedFor f t i key ps (placeOf key (length ps)) (placeOf key (length ps) + probes)
-        → KeyPut f t i key ps ps (not b)
+        → KeyPut f t i key ps ps b
     searched-full b e full =
         record {
           wide = refl;
-          new = ap not (e ∙ ap (has key) (keys-there f t i room-before));
+          new = e;
           index = λ n. full-indexed f t i (length ps) ps (a .index) wide few key (a .some) (sym is) full;
         }
 
@@ -188,12 +197,13 @@ pub key-here : (f : File) (w col : ℕ) → w ≡ rowWidth f → col ≡ keyWord
 key-here f w col v m t i x e = rw (v, m) at e
 
 module _ (f : File) (t : List ℕ) (run : KeyRun) (i : ℕ) (ps : List ℕ) where
-  pub row-none : AtRow f t i ps → namesAt f t i ≡ false → RowPut f t run i ps ps (Goes run)
+  pub row-none : AtRow f t run i ps → namesAt f t i ≡ false → RowPut f t run i ps ps (Goes run)
   row-none a e =
       record {
         wide = refl;
         came = λ q. absurd (let z : _≡_ {A = ℕ} 0 1 = cc in omega arith);
         told = λ next q used h x. let z : run ≡ next = cc in rw (← z) (told-none f t used run i h x e);
+        runs = λ next q g. let z : run ≡ next = cc in rw (← z) (g ∙ sym (ap runOf (seen-none f t i i e)));
         index = λ next q. one-more f t i (length ps) ps (a .index) (λ n. absurd (true≢false (sym n ∙ e)));
       }
 
@@ -206,6 +216,10 @@ module _ (f : File) (t : List ℕ) (run : KeyRun) (i : ℕ) (ps : List ℕ) wher
           told = λ m q used h x.
               let z : m ≡ stepRun run (keyAt f t i) = cc in
               rw z (told-key f t used run i h x e (rw is at (not-true (has key (keysBetween f t 0 i)) (sym (p .new) ∙ y))));
+          runs = λ m q g.
+              (let z : m ≡ stepRun run (keyAt f t i) = cc in
+              z ∙ (ap (λ (s : KeyRun). stepRun s (keyAt f t i)) g
+              ∙ sym (ap runOf (seen-key f t i i e) ∙ run-next (keysBetween f t 0 i) (keyAt f t i))));
           index = λ m q. p .index y;
         }
 
@@ -215,21 +229,30 @@ module _ (f : File) (t : List ℕ) (run : KeyRun) (i : ℕ) (ps : List ℕ) wher
           wide = p .wide;
           came = λ q used h x. told-came f t used run i h x e (rw is at (not-false (has key (keysBetween f t 0 i)) (sym (p .new) ∙ y)));
           told = λ m q. absurd (let z : _≡_ {A = ℕ} 0 1 = cc in omega arith);
+          runs = λ m q. absurd (let z : _≡_ {A = ℕ} 0 1 = cc in omega arith);
           index = λ m q. absurd (let z : _≡_ {A = ℕ} 0 1 = cc in omega arith);
         }
 
 -- ALL ROWS
 module _ (f : File) (used : ℕ) (t ps : List ℕ) where
   pub none-indexed : used * rowWidth f ≤ length t → namesAt f t 0 ≡ false → (run : KeyRun) → run ≡ noKeys → Indexed f used t ps run 1 ps
-  none-indexed r e run n = record { some = omega arith; told = rw n (told-first f t used r e); index = starts f t (length ps) ps refl }
+  unfolding after
+  none-indexed r e run n =
+      record {
+        some = omega arith;
+        told = rw n (told-first f t used r e);
+        runs = n ∙ sym (ap runOf (none-seen f t used e));
+        index = starts f t (length ps) ps refl;
+      }
 
   module _ (run : KeyRun) (i : ℕ) (qs : List ℕ) (x : Indexed f used t ps run i qs) where
-    pub at-row : used * rowWidth f ≤ length t → namesAt f t 0 ≡ false → i < used → AtRow f t i qs
+    pub at-row : used * rowWidth f ≤ length t → namesAt f t 0 ≡ false → i < used → AtRow f t run i qs
     at-row r e h =
         record {
           some = x .some;
           room = row-inside (rowWidth f) i used (length t) h r;
           first = e;
+          runs = x .runs;
           index = rw (x .index .wide) (x .index);
         }
 
@@ -237,10 +260,43 @@ module _ (f : File) (used : ℕ) (t ps : List ℕ) where
       pub one-indexed : (next : KeyRun) → r ≡ Goes next → Indexed f used t ps next (i + 1) ms
       one-indexed next q =
           rw add-one
-          (record { some = omega arith; told = p .told next q used h (x .told); index = rw (x .index .wide) at (p .index next q) })
+          (record {
+            some = omega arith;
+            told = p .told next q used h (x .told);
+            runs = p .runs next q (x .runs);
+            index = rw (x .index .wide) at (p .index next q);
+          })
 
       pub again-told : r ≡ Came → KeysTold (keysAmong f used t) (record { distinct = false; rise = false }) × (length ms ≡ length ps)
       again-told q = (told-again f t used false (p .came q used h (x .told)), p .wide ∙ x .index .wide)
 
+    -- rows that name nothing are gone over
+    none-named : i < used → namesAt f t i ≡ false → Indexed f used t ps run (suc i) qs
+    none-named h e =
+        record {
+          some = omega arith;
+          told = told-none f t used run i h (x .told) e;
+          runs = x .runs ∙ sym (ap runOf (seen-none f t used i e));
+          index = one-more f t i (length ps) qs (x .index) (λ n. absurd (true≢false (sym n ∙ e)));
+        }
+
     pub all-told : used ≤ i → KeysTold (keysAmong f used t) (record { distinct = true; rise = run .rises }) × (length qs ≡ length ps)
     all-told h = (told-all f t used run i h (x .told), x .index .wide)
+
+  -- so are some of them at once
+  pub none-between : (run : KeyRun) (qs : List ℕ) (i to : ℕ) → i ≤ to → to ≤ used → ((j : ℕ) → i ≤ j → j < to → namesAt f t j ≡ false)
+      → Indexed f used t ps run i qs → Indexed f used t ps run to qs
+  none-between run qs i to low high none x =
+      let z : i + (to - i) ≡ to = omega arith in
+      rw z at (go (to - i) i (omega arith) (λ j l h. none j l (omega arith)) x)
+    where
+      go : (k from : ℕ) → from + k ≤ used → ((j : ℕ) → from ≤ j → j < from + k → namesAt f t j ≡ false)
+          → Indexed f used t ps run from qs → Indexed f used t ps run (from + k) qs
+      go zero from h n y =
+          let z : from + 0 ≡ from = omega arith in
+          rw z y
+      go (suc k) from h n y =
+          let z : from + suc k ≡ suc from + k = omega arith in
+          rw z
+          (go k (suc from) (omega arith) (λ j l g. n j (omega arith) (omega arith))
+          (none-named run from qs y (omega arith) (n from (omega arith) (omega arith))))

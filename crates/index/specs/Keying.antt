@@ -20,11 +20,12 @@ use Rattle.index.specs.Slots.{namesAt, keysBetween, Index}
 abbrev pub allNew : List ℕ → List ℕ → Bool
 allNew seen ks = passes (λ seen k. not (has k seen)) followedBy seen ks
 
--- row i, and the rows before it in the index; row 0 is the first line's, and names nothing
-pub record AtRow (f : File) (t : List ℕ) (i : ℕ) (ps : List ℕ) : Type 0 where
+-- row i, the run of the keys before it, and their rows in the index; row 0 is the first line's, and names nothing
+pub record AtRow (f : File) (t : List ℕ) (run : KeyRun) (i : ℕ) (ps : List ℕ) : Type 0 where
   pub some : 0 < i
   pub room : i * rowWidth f + rowWidth f ≤ length t
   pub first : namesAt f t 0 ≡ false
+  pub runs : run ≡ runOf (keysBetween f t 0 i)
   pub index : Index f t i (length ps) ps
 
 -- a key of row i is tested, and put into the index where it is new
@@ -43,10 +44,12 @@ pub record RowPut (f : File) (t : List ℕ) (run : KeyRun) (i : ℕ) (ps qs : Li
   pub wide : length qs ≡ length ps
   pub came : r ≡ Came → (used : ℕ) → i < used → Told f used t run i → distinct (keysAmong f used t) ≡ false
   pub told : (next : KeyRun) → r ≡ Goes next → (used : ℕ) → i < used → Told f used t run i → Told f used t next (suc i)
+  pub runs : (next : KeyRun) → r ≡ Goes next → run ≡ runOf (keysBetween f t 0 i) → next ≡ runOf (keysBetween f t 0 (suc i))
   pub index : (next : KeyRun) → r ≡ Goes next → Index f t (suc i) (length ps) qs
 
 -- before row i, in slots that were so many at first
 pub record Indexed (f : File) (used : ℕ) (t ps : List ℕ) (run : KeyRun) (i : ℕ) (qs : List ℕ) : Type 0 where
   pub some : 0 < i
   pub told : Told f used t run i
+  pub runs : run ≡ runOf (keysBetween f t 0 i)
   pub index : Index f t i (length ps) qs

@@ -1,6 +1,6 @@
 // The index of a table's keys: whether they are distinct and whether they rise, told in one pass, in whatever order they come.
 ghost use mathlib.Core.Path.{_≡_};
-ghost use mathlib.Core.Bool.{false, true, _&&_};
+ghost use mathlib.Core.Bool.{false, true, not, _&&_};
 ghost use Prim.Native.Nat.{_*_, _<_, _≤_};
 ghost use lib.Dec.{ltb};
 ghost use lib.ListN.{length};
@@ -8,7 +8,9 @@ ghost use Rattle.iff.specs.Tables.{rowWidth, rowAt, keyed};
 ghost use Rattle.keys.specs.Lookup.{keysAmong};
 ghost use Rattle.keys.specs.Places.{probes, placeOf};
 ghost use Rattle.index.specs.Told.{KeysTold};
-ghost use Rattle.index.specs.Slots.{namesAt, keyAt, Probed};
+ghost use Rattle.iff.specs.Lists.{has};
+ghost use Rattle.fresh_keys.specs.Runs.{runOf};
+ghost use Rattle.index.specs.Slots.{namesAt, keyAt, keysBetween, Probed};
 ghost use Rattle.index.specs.Keying.{AtRow, KeyPut, RowPut};
 
 // What a table's keys are like.
@@ -25,7 +27,7 @@ enum Met {
 }
 
 // What a row leaves: its key came before, or the run of the keys so far.
-enum Next {
+pub enum Next {
     Came,
     Goes(fresh_keys::KeyRun),
 }
@@ -65,17 +67,36 @@ fn probe(file: iff::File, t: &[u64], i: usize, places: &[u32], key: u64) -> Met
     Met::Full
 }
 
+// A key is none of those of the rows before row `i`. While keys rise, one above the last is new without a search.
+fn is_new_key(file: iff::File, t: &[u64], i: usize, run: fresh_keys::KeyRun, key: u64) -> bool
+    requires { ⌜ (run ≡ runOf (keysBetween file (now t) 0 i)) × (i * rowWidth file ≤ length (now t)) ⌝ }
+    ensures { λ r. ⌜ r ≡ not (has key (keysBetween file (now (t .entry)) 0 i)) ⌝ }
+{
+    let next = fresh_keys::next_run(run, key);
+    if next.rises {
+        return true;
+    }
+    !keys::names_among(file, t, i, key)
+}
+
 // Tests the key of row `i`, and puts the row into the first free slot for it where it is new. A free slot that is met before any row of the key
-// says so; where none is met, or there are too few slots, or the row's number is too wide for one, the rows before it are searched.
-fn put_key(file: iff::File, t: &[u64], i: usize, key: u64, places: &mut [u32]) -> bool
-    requires { ⌜ AtRow file (now t) i (now places) × ((namesAt file (now t) i ≡ true) × (key ≡ keyAt file (now t) i)) ⌝ }
+// says so; where none is met, or there are too few slots, or the row's number is too wide for one, the keys before it tell.
+fn put_key(
+    file: iff::File,
+    t: &[u64],
+    i: usize,
+    run: fresh_keys::KeyRun,
+    key: u64,
+    places: &mut [u32],
+) -> bool
+    requires { ⌜ AtRow file (now t) run i (now places) × ((namesAt file (now t) i ≡ true) × (key ≡ keyAt file (now t) i)) ⌝ }
     ensures { λ r. ⌜ KeyPut file (now (t .entry)) i key (now (places .entry)) (now (places .exit)) r ⌝ }
 {
     if i > 4294967295 {
-        return !keys::names_among(file, t, i, key);
+        return is_new_key(file, t, i, run, key);
     }
     if places.len() <= keys::PROBES {
-        return !keys::names_among(file, t, i, key);
+        return is_new_key(file, t, i, run, key);
     }
     match probe(file, t, i, places, key) {
         Met::Free(at) => {
@@ -83,19 +104,19 @@ fn put_key(file: iff::File, t: &[u64], i: usize, key: u64, places: &mut [u32]) -
             true
         }
         Met::Taken => false,
-        Met::Full => !keys::names_among(file, t, i, key),
+        Met::Full => is_new_key(file, t, i, run, key),
     }
 }
 
 // One row: its key is tested and put into the index, where it names something.
-fn index_row(
+pub fn index_row(
     file: iff::File,
     t: &[u64],
     i: usize,
     run: fresh_keys::KeyRun,
     places: &mut [u32],
 ) -> Next
-    requires { ⌜ AtRow file (now t) i (now places) ⌝ }
+    requires { ⌜ AtRow file (now t) run i (now places) ⌝ }
     ensures { λ r. ⌜ RowPut file (now (t .entry)) run i (now (places .entry)) (now (places .exit)) r ⌝ }
 {
     let w = tables::row_width(file);
@@ -105,7 +126,7 @@ fn index_row(
         return Next::Goes(run);
     }
     let key = tables::word_at(t, w, i, col);
-    if put_key(file, t, i, key, places) {
+    if put_key(file, t, i, run, key, places) {
         return Next::Goes(fresh_keys::next_run(run, key));
     }
     Next::Came

@@ -61,7 +61,7 @@ module _ (w used m n : ℕ) (q : n ≡ atMost used (m / w)) where
 
 -- a row of a key, and what is answered of it
 module _ (f : File) (used : ℕ) (t : List ℕ) (k : ℕ) where
-  key-named : (i : ℕ) → KeyRow f used t k i → has k (keysAmong f used t) ≡ true
+  pub key-named : (i : ℕ) → KeyRow f used t k i → has k (keysAmong f used t) ≡ true
   unfolding keysAmong
   key-named i h =
       has-keys f k (rowsAmong (rowWidth f) used t)

@@ -302,8 +302,14 @@ pub fn index_services(t: &[u64], used: usize, places: &mut [u32])
 }
 
 // A look at the slots for a key. A free one ends it: the key is in none of those after it. A slot with a row of another table, which may be out of
-// range here, is passed over.
-fn found_by_place(file: iff::File, t: &[u64], used: usize, places: &[u32], key: u64) -> iff::RowOf
+// range here, is passed over. So it may miss, and serves alone where what it misses is left to others.
+pub fn found_by_place(
+    file: iff::File,
+    t: &[u64],
+    used: usize,
+    places: &[u32],
+    key: u64,
+) -> iff::RowOf
     ensures { λ r. ⌜ HitRow file used (now (t .entry)) key r ⌝ }
 {
     let slots = places.len();

@@ -18,7 +18,7 @@ use Rattle.iff.specs.declared.Verdict.the-variants.{Fine, Fault}
 use Rattle.iff_rules.specs.References.{metByRow, metInGroup, metInBlock}
 use Rattle.iff_rules.specs.Rows.{Context}
 use Rattle.iff_rules.specs.Load.{plainTest, plainVerdict, groupTest, groupVerdict, groupsVerdict, blockTest, blockVerdict, timetblsVerdict, fileVerdict}
-use Rattle.keys.specs.Lookup.{keysIn}
+use Rattle.keys.specs.Lookup.{keysIn, keysAmong}
 use Rattle.references.specs.Agree.{BlockKeys, StationKeys, GroupKeys}
 use Rattle.reading.specs.Reading.{FileRead}
 
@@ -109,9 +109,9 @@ back (Fault k p) x e g = rw e at g
 abbrev rowKeys : List ℕ → List ℕ → Keys
 rowKeys cy zo = eleven [] [] (keysIn (Rows Country) cy) [] (keysIn (Groups Timezone) zo) [] [] [] [] [] []
 
-abbrev groupKeys : List ℕ → List ℕ → List ℕ → List ℕ → List ℕ → Keys
-groupKeys co mo st se xf =
-    eleven [] (keysIn (Rows Company) co) [] (keysIn (Rows Trnsmode) mo) [] (keysIn (Rows Stations) st) [] (keysIn Timetbls se) []
+abbrev groupKeys : ℕ → List ℕ → List ℕ → List ℕ → List ℕ → List ℕ → Keys
+groupKeys n co mo st se xf =
+    eleven [] (keysIn (Rows Company) co) [] (keysIn (Rows Trnsmode) mo) [] (keysIn (Rows Stations) st) [] (keysAmong Timetbls n se) []
     (keysIn (Groups Xfootnote) xf) []
 
 abbrev blockKeys : List ℕ → List ℕ → List ℕ → List ℕ → Keys
@@ -127,14 +127,14 @@ module _ {form : Form} {h text : List ℕ} {v : Verdict} {was is : List ℕ} {r 
     pub rows-back : FileRead (Rows f) form (λ c. StationKeys c cy zo) h text v was is r → fine r ≡ true → fine v ≡ true
     rows-back d g = back v _ (rows-said d) g
 
-  module _ {f : GroupFile} {co mo st se xf : List ℕ} where
-    pub groups-said : FileRead (Groups f) form (λ c. GroupKeys c co mo st se xf) h text v was is r
-        → r ≡ orElse v (fileVerdict (asking form (groupKeys co mo st se xf)) h (Groups f) (lines text))
+  module _ {f : GroupFile} {n : ℕ} {co mo st se xf : List ℕ} where
+    pub groups-said : FileRead (Groups f) form (λ c. GroupKeys c n co mo st se xf) h text v was is r
+        → r ≡ orElse v (fileVerdict (asking form (groupKeys n co mo st se xf)) h (Groups f) (lines text))
     groups-said d =
-        d .verdict (asking form (groupKeys co mo st se xf)) refl
+        d .verdict (asking form (groupKeys n co mo st se xf)) refl
         (record { companies = refl; modes = refl; stations = refl; services = refl; xfootnotes = refl })
 
-    pub groups-back : FileRead (Groups f) form (λ c. GroupKeys c co mo st se xf) h text v was is r → fine r ≡ true → fine v ≡ true
+    pub groups-back : FileRead (Groups f) form (λ c. GroupKeys c n co mo st se xf) h text v was is r → fine r ≡ true → fine v ≡ true
     groups-back d g = back v _ (groups-said d) g
 
   module _ {co mo st fo : List ℕ} where

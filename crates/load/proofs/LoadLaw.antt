@@ -29,10 +29,12 @@ use Rattle.iff.specs.declared.Verdict.the-variants.{Fine, Fault}
 use Rattle.iff.specs.declared.Answer.{Answer}
 use Rattle.iff_rules.specs.Rows.{firstRowOf, rowsOfLines, formOf, firstOf, deliveryRows, rowsOfFiles, Context, contextOf}
 use Rattle.iff_rules.specs.Load.{faultUnless, roomVerdict, overFiles, deliveryVerdict, companyVerdict, fileVerdict, contentsVerdict, loadVerdict, loadAnswer, filled, loadTable}
-use Rattle.keys.specs.Lookup.{keysIn}
+use Rattle.keys.specs.Lookup.{keysIn, keysAmong}
+use Rattle.keys.proofs.Among.{keys-counted}
 use Rattle.references.specs.Agree.{BlockKeys, StationKeys, GroupKeys}
 use Rattle.references.specs.Company.{companyNamed}
 use Rattle.reading.specs.Reading.{Ready, FileRead, DeliveryRead, headLine}
+use Rattle.timetbls.specs.Blocks.{Counted}
 use Rattle.iff_laws.specs.Outcomes.{Loaded}
 use Rattle.iff_laws.specs.ScanLaws.{or-fine, cons-fine, or-nothing}
 use Rattle.sizes.specs.Sizes.{sizesVerdict, lengthsWithin, absencesVerdict, lengthsOf}
@@ -196,7 +198,7 @@ falls (p ∷ q ∷ qs) f (suc i) zero h k g = absurd (omega arith)
 falls (p ∷ q ∷ qs) f (suc i) (suc j) h k g = falls (q ∷ qs) (f .1) i j (omega arith) (omega arith) g
 
 -- THE WHOLE: eleven files F, tables at entry t, cleared z, read a, at exit b; the verdicts before the first file and after each step
-module _ (F t z a b : PerFile (List ℕ)) (v0 v1 v2 v3 v4 v5 v6 v7 v8 v9 v10 v11 v12 : Verdict) (header : List ℕ) (form : Form) (services : ℕ)
+module _ (F t z a b : PerFile (List ℕ)) (v0 v1 v2 v3 v4 v5 v6 v7 v8 v9 v10 v11 v12 : Verdict) (header : List ℕ) (form : Form) (rows services : ℕ)
     (r : Answer) where
   abbrev R : PerFile ℕ
   R = perFile (λ f. length (of t f))
@@ -225,26 +227,26 @@ module _ (F t z a b : PerFile (List ℕ)) (v0 v1 v2 v3 v4 v5 v6 v7 v8 v9 v10 v11
     pub trnsmode : FileRead (Rows Trnsmode) form (λ c. StationKeys c (a .country) (z .timezone)) header (F .trnsmode) v4 (z .trnsmode) (a .trnsmode)
         v5
     pub timezone :
-        FileRead (Groups Timezone) form (λ c. GroupKeys c (a .company) (a .trnsmode) (z .stations) (z .timetbls) (z .xfootnote)) header
+        FileRead (Groups Timezone) form (λ c. GroupKeys c 0 (a .company) (a .trnsmode) (z .stations) (z .timetbls) (z .xfootnote)) header
         (F .timezone) v5 (z .timezone) (a .timezone) v6
     pub stations : FileRead (Rows Stations) form (λ c. StationKeys c (a .country) (a .timezone)) header (F .stations) v6 (z .stations) (a .stations)
         v7
     pub footnote :
-        FileRead (Groups Footnote) form (λ c. GroupKeys c (a .company) (a .trnsmode) (a .stations) (z .timetbls) (z .xfootnote)) header
+        FileRead (Groups Footnote) form (λ c. GroupKeys c 0 (a .company) (a .trnsmode) (a .stations) (z .timetbls) (z .xfootnote)) header
         (F .footnote) v7 (z .footnote) (a .footnote) v8
     pub timetbls :
         FileRead Timetbls form (λ c. BlockKeys c (a .company) (a .trnsmode) (a .stations) (a .footnote)) header
         (F .timetbls) v8 (z .timetbls) (a .timetbls) v9
     pub changes :
-        FileRead (Groups Changes) form (λ c. GroupKeys c (a .company) (a .trnsmode) (a .stations) (a .timetbls) (z .xfootnote)) header
+        FileRead (Groups Changes) form (λ c. GroupKeys c rows (a .company) (a .trnsmode) (a .stations) (a .timetbls) (z .xfootnote)) header
         (F .changes) v9 (z .changes) (a .changes) v10
     pub xfootnote :
-        FileRead (Groups Xfootnote) form (λ c. GroupKeys c (a .company) (a .trnsmode) (a .stations) (a .timetbls) (a .footnote)) header
+        FileRead (Groups Xfootnote) form (λ c. GroupKeys c rows (a .company) (a .trnsmode) (a .stations) (a .timetbls) (a .footnote)) header
         (F .xfootnote) v10 (z .xfootnote) (a .xfootnote) v11
     pub xchanges :
-        FileRead (Groups Xchanges) form (λ c. GroupKeys c (a .company) (a .trnsmode) (a .stations) (a .timetbls) (a .xfootnote)) header
+        FileRead (Groups Xchanges) form (λ c. GroupKeys c rows (a .company) (a .trnsmode) (a .stations) (a .timetbls) (a .xfootnote)) header
         (F .xchanges) v11 (z .xchanges) (a .xchanges) v12
-    pub counted : services ≡ length (keysIn Timetbls (a .timetbls))
+    pub counted : fine v9 ≡ true → Counted (a .timetbls) rows services
     pub settles :
         Settled v12 (a .delivery) (a .company) (a .country) (a .trnsmode) (a .timezone) (a .stations)
         (a .footnote) (a .timetbls) (a .changes) (a .xfootnote) (a .xchanges)
@@ -463,10 +465,14 @@ module _ (F t z a b : PerFile (List ℕ)) (v0 v1 v2 v3 v4 v5 v6 v7 v8 v9 v10 v11
         let h = to 1 9 refl refl g in
         keys-by Timetbls blocks-read (form-right h) g (held-timetbls D C header (lines (F .timetbls)) (later v8 _ due-timetbls g)) (fits h)
 
+    -- services are looked up in the rows that were counted
+    looked-up : right 9 → keysAmong Timetbls rows (a .timetbls) ≡ C .keys Timetbls
+    looked-up g = keys-counted Timetbls (a .timetbls) rows (s .counted g .rows) ∙ running g
+
     due-changes : v10 ≡ orElse v9 (Due (Groups Changes))
     unfolding groups-read contextOf
     due-changes =
-        due-by (Groups Changes) (groups-read Changes) (λ g. form-is (to 1 9 refl refl g)) (λ g. rw (places (to 7 9 refl refl g), running g))
+        due-by (Groups Changes) (groups-read Changes) (λ g. form-is (to 1 9 refl refl g)) (λ g. rw (places (to 7 9 refl refl g), looked-up g))
 
     due-xfootnote : v11 ≡ orElse v10 (Due (Groups Xfootnote))
     due-xfootnote = due-by (Groups Xfootnote) (groups-read Xfootnote) (λ g. form-is (to 1 10 refl refl g)) (λ g. refl)
@@ -504,7 +510,7 @@ module _ (F t z a b : PerFile (List ℕ)) (v0 v1 v2 v3 v4 v5 v6 v7 v8 v9 v10 v11
     verdict-is = contents ∙ ap (λ (x : Verdict). orElse x (contentsVerdict C (rowsOfFiles F) F)) (s .sizes) ∙ sym (four _ _ _ _)
 
     services-are : fine v12 ≡ true → services ≡ length (C .keys Timetbls)
-    services-are g = s .counted ∙ ap length (running (to 9 12 refl refl g))
+    services-are g = let h = to 9 12 refl refl g in s .counted h .services ∙ ap length (running h)
 
     answers-are : r ≡ loadAnswer F R
     unfolding loadAnswer

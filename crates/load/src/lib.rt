@@ -127,6 +127,7 @@ pub fn load(
         t_stations,
         t_timetbls,
         t_xfootnote,
+        0,
     );
     let v7 = row_files::read_row_file(
         RowFile::Stations,
@@ -150,8 +151,9 @@ pub fn load(
         t_stations,
         t_timetbls,
         t_xfootnote,
+        0,
     );
-    let v9 = timetbls::read_timetbls(
+    let blocks = timetbls::read_timetbls(
         v8,
         form,
         timetbls,
@@ -162,6 +164,8 @@ pub fn load(
         t_stations,
         t_footnote,
     );
+    let v9 = blocks.verdict;
+    let service_rows = blocks.rows;
     let v10 = group_files::read_group_file(
         GroupFile::Changes,
         v9,
@@ -174,6 +178,7 @@ pub fn load(
         t_stations,
         t_timetbls,
         t_xfootnote,
+        service_rows,
     );
     let v11 = group_files::read_group_file(
         GroupFile::Xfootnote,
@@ -187,6 +192,7 @@ pub fn load(
         t_stations,
         t_timetbls,
         t_footnote,
+        service_rows,
     );
     let v12 = group_files::read_group_file(
         GroupFile::Xchanges,
@@ -200,8 +206,8 @@ pub fn load(
         t_stations,
         t_timetbls,
         t_xfootnote,
+        service_rows,
     );
-    let services = fresh_keys::count_services(t_timetbls);
     clearing::settle(
         v12,
         t_delivery,
@@ -216,5 +222,5 @@ pub fn load(
         t_xfootnote,
         t_xchanges,
     );
-    answers::answer_of(v12, form.days, services)
+    answers::answer_of(v12, form.days, blocks.services)
 }

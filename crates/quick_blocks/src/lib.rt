@@ -132,7 +132,7 @@ fn read_platform(
         (now (block .entry)) n k row (now (t .entry)) at st before (now (t .exit)) r ⌝ }
 {
     let number = before + 1;
-    match quick_steps::put_line(
+    match quick_steps::put_platform(
         block[at],
         block,
         at,
@@ -193,7 +193,7 @@ fn is_whole(t: &[u64], row: usize, lines: usize, st: iff::InBlock, n: u64, k: u6
     row_legs::are_right(t, row, row + lines, stops)
 }
 
-// A block whose service is new, with its rows put behind the first `row` rows.
+// A block whose service is new, of k lines and n stops as it is thought, with its rows put behind the first `row` rows.
 pub fn put_block(
     block: &[u8],
     form: iff::Form,
@@ -206,6 +206,8 @@ pub fn put_block(
     stations: &[u64],
     footnotes: &[u64],
     places: &[u32],
+    k: u64,
+    n: u64,
 ) -> Quickly
     requires { ⌜ (0 < length (now block)) × ((row + linesIn (asBlock (now block))) * rowWidth Timetbls ≤ length (now t)) ⌝ }
     ensures { λ r. ⌜ QuickPut form (now (block .entry)) fresh counts
@@ -214,9 +216,6 @@ pub fn put_block(
     if !fresh {
         return Quickly::Left;
     }
-    let ahead = quick_steps::count_ahead(block);
-    let n = ahead.stops;
-    let k = ahead.lines;
     let start = iff::InBlock {
         stand: iff::Stand::Start,
         stops: 0,

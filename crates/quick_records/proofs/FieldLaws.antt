@@ -1,22 +1,39 @@
--- Laws of records that are told by their fields: one for each record, over the columns from `at` up to `end`. Assumes nothing.
+-- Laws of records that are told by their fields: one for each record, over the columns from `at` up to `end`; and of what they name. Assumes nothing.
 use Prim.Native.Nat.{ℕ, _+_, _-_, _≤_, _<_}
 use mathlib.Core.Path.{_≡_, refl, ap, sym, _∙_}
 use mathlib.Core.List.{List, [], _∷_}
-use mathlib.Core.Bool.{true, false}
+use mathlib.Core.Bool.{Bool, true, false, _&&_, false≢true}
 use native.Mathlib.Omega.{arith}
+use lib.Dec.{ltb}
 use lib.ListN.{length, take, drop}
-use borrow.Author.Tests.{eq-eqb, ne-eqb}
-use Rattle.iff.specs.Lists.{all}
+use borrow.Author.Tests.{eq-eqb, ne-eqb, lt-ltb}
+use Rattle.iff.specs.Lists.{all, has}
 use Rattle.iff.specs.Columns.{picture, pictureFrom, serviceFields, numberFields, validityFields, transportFields, attributeFields}
 use Rattle.iff.specs.Columns.{stopFields, intervalFields, passedFields, platformFields}
 use Rattle.iff.specs.Values.{numberOf, codeOf, allBlank, stopOf, fieldRight, fieldWords, words}
 use Rattle.iff.specs.Tables.{padded}
+use Rattle.iff.specs.declared.File.{File}
+use Rattle.iff.specs.declared.RowOf.{RowOf}
+use Rattle.iff.specs.declared.RowOf.the-variants.{Row as RowIs, NoRow}
+use Rattle.iff_rules.specs.Meaning.{mostStops}
+use Rattle.tables.proofs.First.{found}
+use Rattle.keys.specs.Lookup.{keysAmong, HitRow}
+use Rattle.keys.proofs.Among.{key-named}
 use Rattle.quick_lines.specs.Pictures.{Pictured}
 use Rattle.quick_records.specs.Told.{Told}
 
 -- nothing is told by a width of 0
 pub nothing : {A : Type 0} (w : ℕ) → w ≡ 0 → 0 < w → A
 nothing w e h = absurd (omega arith)
+
+-- a row that a search hit names its key
+pub there : (f : File) (used : ℕ) (t : List ℕ) (key : ℕ) (r : RowOf) → HitRow f used t key r → found r ≡ true → has key (keysAmong f used t) ≡ true
+there f used t key (RowIs i) h e = key-named f used t key i (h .found i refl)
+there f used t key NoRow h e = absurd (false≢true e)
+
+-- a stop that is not one too many, and a test of its times
+pub in-time : (stops : ℕ) (b m : Bool) → stops < mostStops → b ≡ m → b ≡ true → (ltb stops mostStops && m) ≡ true
+in-time stops b m few e h = rw (lt-ltb stops mostStops few, sym e ∙ h)
 
 -- A STOP'S NUMBER k, which a field says
 module _ (n m k : ℕ) (e : k ≡ m) where

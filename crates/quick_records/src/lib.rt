@@ -1,14 +1,25 @@
-// The records of a TIMETBLS block that are told to be right where they stand, each by one look at its picture, and the words that they leave.
-// One small function a record, with its picture at the call: so the compiler knows each column's mark.
+// The records of a TIMETBLS block that are told to be right where they stand, each by one look at its picture, by its times and by what it names, and
+// the words that they leave. One function a record, with its picture and the file that it names at the call: so the compiler knows each column's mark
+// and where a key stands in its row. What is named is looked for at its place alone: what is missed there is left to others, as all that is not told.
+use iff::File;
+use iff::GroupFile;
+use iff::RowFile;
+use iff::limits;
 ghost use mathlib.Core.Path.{_≡_};
+ghost use mathlib.Core.Bool.{true, _&&_};
 ghost use mathlib.Core.List.{[], _∷_};
 ghost use Prim.Native.Nat.{_<_, _≤_};
-ghost use lib.ListN.{length, getD};
+ghost use lib.Dec.{ltb};
+ghost use lib.ListN.{length};
 ghost use Rattle.iff.specs.Columns.{serviceFields, numberFields, validityFields, transportFields, attributeFields};
 ghost use Rattle.iff.specs.Columns.{stopFields, intervalFields, passedFields, platformFields};
 ghost use Rattle.iff.specs.Values.{stopOf, numberOf};
-ghost use Rattle.iff.specs.declared.Form.{Form};
-ghost use Rattle.quick_records.specs.Told.{Told, Seen};
+ghost use Rattle.iff.specs.Times.{isTime, interval as isInterval};
+ghost use Rattle.iff.specs.declared.RowFile.the-variants.{Company, Trnsmode, Stations};
+ghost use Rattle.iff.specs.declared.GroupFile.the-variants.{Footnote};
+ghost use Rattle.iff.specs.declared.File.the-variants.{Rows, Groups};
+ghost use Rattle.iff_rules.specs.Meaning.{mostStops};
+ghost use Rattle.quick_records.specs.Told.{Told, Tested};
 
 // The words of a record's row between its tag and its line's number, the last of which is 0 in every record; and how many columns the record has,
 // 0 where it is not told to be right.
@@ -48,7 +59,7 @@ fn stop_word(field: &[u8], n: u64) -> u64
 }
 
 // `#`, of a block of k lines and n stops
-fn service_head(text: &[u8], at: usize, n: u64, k: u64) -> Words
+pub fn service_head(text: &[u8], at: usize, n: u64, k: u64) -> Words
     requires { ⌜ at ≤ length (now text) ⌝ }
     ensures { λ r. ⌜ (0 < r .width → Told (now (text .entry)) at serviceFields n (k ∷ n ∷ []) r) ⌝ }
 {
@@ -68,9 +79,17 @@ fn service_head(text: &[u8], at: usize, n: u64, k: u64) -> Words
 }
 
 // `%`
-fn train_number(text: &[u8], at: usize, n: u64) -> Words
+pub fn train_number(
+    text: &[u8],
+    at: usize,
+    n: u64,
+    used: usize,
+    companies: &[u64],
+    places: &[u32],
+) -> Words
     requires { ⌜ at ≤ length (now text) ⌝ }
-    ensures { λ r. ⌜ (0 < r .width → Told (now (text .entry)) at (numberFields 7) n [] r) ⌝ }
+    ensures { λ r. ⌜ (0 < r .width
+        → Tested (now (text .entry)) at (numberFields 7) n true (Rows Company) used (now (companies .entry)) (r .one) r) ⌝ }
 {
     if !quick_lines::looks(
         text,
@@ -85,6 +104,15 @@ fn train_number(text: &[u8], at: usize, n: u64) -> Words
     let number = text::number(&line[5..10]);
     let first = stop_word(&line[19..22], n);
     let last = stop_word(&line[23..26], n);
+    let iff::RowOf::Row(_) = keys::found_by_place(
+        File::Rows(RowFile::Company),
+        companies,
+        used,
+        places,
+        company,
+    ) else {
+        return untold();
+    };
     Words {
         width: 57,
         one: company,
@@ -95,9 +123,17 @@ fn train_number(text: &[u8], at: usize, n: u64) -> Words
 }
 
 // `-`
-fn validity(text: &[u8], at: usize, n: u64) -> Words
+pub fn validity(
+    text: &[u8],
+    at: usize,
+    n: u64,
+    used: usize,
+    footnotes: &[u64],
+    places: &[u32],
+) -> Words
     requires { ⌜ at ≤ length (now text) ⌝ }
-    ensures { λ r. ⌜ (0 < r .width → Told (now (text .entry)) at validityFields n [] r) ⌝ }
+    ensures { λ r. ⌜ (0 < r .width
+        → Tested (now (text .entry)) at validityFields n true (Groups Footnote) used (now (footnotes .entry)) (r .one) r) ⌝ }
 {
     if !quick_lines::looks(text, at, b"lnnnnn,nnn,nnn") {
         return untold();
@@ -107,6 +143,15 @@ fn validity(text: &[u8], at: usize, n: u64) -> Words
     let footnote = text::number(&line[1..6]);
     let first = stop_word(&line[7..10], n);
     let last = stop_word(&line[11..14], n);
+    let iff::RowOf::Row(_) = keys::found_by_place(
+        File::Groups(GroupFile::Footnote),
+        footnotes,
+        used,
+        places,
+        footnote,
+    ) else {
+        return untold();
+    };
     Words {
         width: 14,
         one: footnote,
@@ -117,9 +162,17 @@ fn validity(text: &[u8], at: usize, n: u64) -> Words
 }
 
 // `&`
-fn transport(text: &[u8], at: usize, n: u64) -> Words
+pub fn transport(
+    text: &[u8],
+    at: usize,
+    n: u64,
+    used: usize,
+    modes: &[u64],
+    places: &[u32],
+) -> Words
     requires { ⌜ at ≤ length (now text) ⌝ }
-    ensures { λ r. ⌜ (0 < r .width → Told (now (text .entry)) at transportFields n [] r) ⌝ }
+    ensures { λ r. ⌜ (0 < r .width
+        → Tested (now (text .entry)) at transportFields n true (Rows Trnsmode) used (now (modes .entry)) (r .one) r) ⌝ }
 {
     if !quick_lines::looks(text, at, b"lcccc,nnn,nnn") {
         return untold();
@@ -132,6 +185,15 @@ fn transport(text: &[u8], at: usize, n: u64) -> Words
     let mode = text::code(&line[1..5]);
     let first = stop_word(&line[6..9], n);
     let last = stop_word(&line[10..13], n);
+    let iff::RowOf::Row(_) = keys::found_by_place(
+        File::Rows(RowFile::Trnsmode),
+        modes,
+        used,
+        places,
+        mode,
+    ) else {
+        return untold();
+    };
     Words {
         width: 13,
         one: mode,
@@ -142,9 +204,17 @@ fn transport(text: &[u8], at: usize, n: u64) -> Words
 }
 
 // `*`
-fn attribute(text: &[u8], at: usize, n: u64) -> Words
+pub fn attribute(
+    text: &[u8],
+    at: usize,
+    n: u64,
+    used: usize,
+    footnotes: &[u64],
+    places: &[u32],
+) -> Words
     requires { ⌜ at ≤ length (now text) ⌝ }
-    ensures { λ r. ⌜ (0 < r .width → Told (now (text .entry)) at attributeFields n [] r) ⌝ }
+    ensures { λ r. ⌜ (0 < r .width
+        → Tested (now (text .entry)) at attributeFields n true (Groups Footnote) used (now (footnotes .entry)) (r .four) r) ⌝ }
 {
     if !quick_lines::looks(text, at, b"lcccc,nnn,nnn,nnnnn") {
         return untold();
@@ -158,6 +228,15 @@ fn attribute(text: &[u8], at: usize, n: u64) -> Words
     let first = stop_word(&line[6..9], n);
     let last = stop_word(&line[10..13], n);
     let footnote = text::number(&line[14..19]);
+    let iff::RowOf::Row(_) = keys::found_by_place(
+        File::Groups(GroupFile::Footnote),
+        footnotes,
+        used,
+        places,
+        footnote,
+    ) else {
+        return untold();
+    };
     Words {
         width: 19,
         one: code,
@@ -168,9 +247,18 @@ fn attribute(text: &[u8], at: usize, n: u64) -> Words
 }
 
 // `>`, `.` and `<`
-fn plain_stop(text: &[u8], at: usize, n: u64) -> Words
+pub fn plain_stop(
+    text: &[u8],
+    at: usize,
+    n: u64,
+    stops: u64,
+    used: usize,
+    stations: &[u64],
+    places: &[u32],
+) -> Words
     requires { ⌜ at ≤ length (now text) ⌝ }
-    ensures { λ r. ⌜ (0 < r .width → Told (now (text .entry)) at stopFields n [] r) ⌝ }
+    ensures { λ r. ⌜ (0 < r .width
+        → Tested (now (text .entry)) at stopFields n (ltb stops mostStops && isTime (r .two)) (Rows Stations) used (now (stations .entry)) (r .one) r) ⌝ }
 {
     if !quick_lines::looks(text, at, b"lccccccc,nnnn") {
         return untold();
@@ -182,6 +270,21 @@ fn plain_stop(text: &[u8], at: usize, n: u64) -> Words
     }
     let station = text::code(&line[1..8]);
     let time = text::number(&line[9..13]);
+    if limits::MOST_STOPS <= stops {
+        return untold();
+    }
+    if !clock::is_time(time) {
+        return untold();
+    }
+    let iff::RowOf::Row(_) = keys::found_by_place(
+        File::Rows(RowFile::Stations),
+        stations,
+        used,
+        places,
+        station,
+    ) else {
+        return untold();
+    };
     Words {
         width: 13,
         one: station,
@@ -192,9 +295,18 @@ fn plain_stop(text: &[u8], at: usize, n: u64) -> Words
 }
 
 // `+`
-fn interval(text: &[u8], at: usize, n: u64) -> Words
+pub fn interval(
+    text: &[u8],
+    at: usize,
+    n: u64,
+    stops: u64,
+    used: usize,
+    stations: &[u64],
+    places: &[u32],
+) -> Words
     requires { ⌜ at ≤ length (now text) ⌝ }
-    ensures { λ r. ⌜ (0 < r .width → Told (now (text .entry)) at intervalFields n [] r) ⌝ }
+    ensures { λ r. ⌜ (0 < r .width
+        → Tested (now (text .entry)) at intervalFields n (ltb stops mostStops && isInterval (r .two) (r .three)) (Rows Stations) used (now (stations .entry)) (r .one) r) ⌝ }
 {
     if !quick_lines::looks(text, at, b"lccccccc,nnnn,nnnn") {
         return untold();
@@ -207,6 +319,21 @@ fn interval(text: &[u8], at: usize, n: u64) -> Words
     let station = text::code(&line[1..8]);
     let arrival = text::number(&line[9..13]);
     let departure = text::number(&line[14..18]);
+    if limits::MOST_STOPS <= stops {
+        return untold();
+    }
+    if !clock::is_interval(arrival, departure) {
+        return untold();
+    }
+    let iff::RowOf::Row(_) = keys::found_by_place(
+        File::Rows(RowFile::Stations),
+        stations,
+        used,
+        places,
+        station,
+    ) else {
+        return untold();
+    };
     Words {
         width: 18,
         one: station,
@@ -217,9 +344,17 @@ fn interval(text: &[u8], at: usize, n: u64) -> Words
 }
 
 // `;`
-fn passed(text: &[u8], at: usize, n: u64) -> Words
+pub fn passed(
+    text: &[u8],
+    at: usize,
+    n: u64,
+    used: usize,
+    stations: &[u64],
+    places: &[u32],
+) -> Words
     requires { ⌜ at ≤ length (now text) ⌝ }
-    ensures { λ r. ⌜ (0 < r .width → Told (now (text .entry)) at passedFields n [] r) ⌝ }
+    ensures { λ r. ⌜ (0 < r .width
+        → Tested (now (text .entry)) at passedFields n true (Rows Stations) used (now (stations .entry)) (r .one) r) ⌝ }
 {
     if !quick_lines::looks(text, at, b"lccccccc") {
         return untold();
@@ -230,6 +365,15 @@ fn passed(text: &[u8], at: usize, n: u64) -> Words
         return untold();
     }
     let station = text::code(&line[1..8]);
+    let iff::RowOf::Row(_) = keys::found_by_place(
+        File::Rows(RowFile::Stations),
+        stations,
+        used,
+        places,
+        station,
+    ) else {
+        return untold();
+    };
     Words {
         width: 8,
         one: station,
@@ -240,9 +384,17 @@ fn passed(text: &[u8], at: usize, n: u64) -> Words
 }
 
 // `?`
-fn platform(text: &[u8], at: usize, n: u64) -> Words
+pub fn platform(
+    text: &[u8],
+    at: usize,
+    n: u64,
+    used: usize,
+    footnotes: &[u64],
+    places: &[u32],
+) -> Words
     requires { ⌜ at ≤ length (now text) ⌝ }
-    ensures { λ r. ⌜ (0 < r .width → Told (now (text .entry)) at platformFields n [] r) ⌝ }
+    ensures { λ r. ⌜ (0 < r .width
+        → Tested (now (text .entry)) at platformFields n true (Groups Footnote) used (now (footnotes .entry)) (r .one) r) ⌝ }
 {
     if !quick_lines::looks(text, at, b"lttttt,ttttt,nnnnn") {
         return untold();
@@ -250,32 +402,20 @@ fn platform(text: &[u8], at: usize, n: u64) -> Words
     let end = at + 18;
     let line = &text[at..end];
     let footnote = text::number(&line[13..18]);
+    let iff::RowOf::Row(_) = keys::found_by_place(
+        File::Groups(GroupFile::Footnote),
+        footnotes,
+        used,
+        places,
+        footnote,
+    ) else {
+        return untold();
+    };
     Words {
         width: 18,
         one: footnote,
         two: 0,
         three: 0,
         four: 0,
-    }
-}
-
-// The record that begins at `at` with this letter, in a block of k lines and n stops.
-pub fn line_words(letter: u8, text: &[u8], at: usize, n: u64, k: u64) -> Words
-    requires { ⌜ (at ≤ length (now text)) × (letter ≡ getD (now text) at 0) ⌝ }
-    ensures { λ r. ⌜ ((form : Form) → 0 < r .width → Seen form (now (text .entry)) at letter n k r) ⌝ }
-{
-    match letter {
-        b'.' => plain_stop(text, at, n),
-        b'+' => interval(text, at, n),
-        b';' => passed(text, at, n),
-        b'?' => platform(text, at, n),
-        b'>' => plain_stop(text, at, n),
-        b'<' => plain_stop(text, at, n),
-        b'#' => service_head(text, at, n, k),
-        b'%' => train_number(text, at, n),
-        b'-' => validity(text, at, n),
-        b'&' => transport(text, at, n),
-        b'*' => attribute(text, at, n),
-        _ => untold(),
     }
 }

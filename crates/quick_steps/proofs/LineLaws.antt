@@ -1,5 +1,5 @@
 -- Laws of one line: what is told of it lets it through, and its row is the block's. Assumes nothing.
-use Prim.Native.Nat.{ℕ, suc, _+_, _-_, _≤_, _<_}
+use Prim.Native.Nat.{ℕ, zero, suc, _+_, _-_, _≤_, _<_}
 use mathlib.Core.Path.{_≡_, refl, ap, sym, _∙_}
 use mathlib.Core.List.{List, [], _∷_}
 use mathlib.Core.Bool.{Bool, true, false, cond}
@@ -34,7 +34,7 @@ use Rattle.quick_records.specs.declared.Words.{Words}
 use Rattle.quick_records.specs.Told.{Seen}
 use Rattle.quick_steps.specs.declared.LinePut.{LinePut}
 use Rattle.quick_steps.specs.declared.LinePut.the-variants.{Next, Unsure}
-use Rattle.quick_steps.specs.Steps.{w, Passing, Stepped, LineTurn}
+use Rattle.quick_steps.specs.Steps.{w, Passing, WordsPut, Stepped, LineTurn}
 
 any-fresh : (b : Bool) → cond b true true ≡ true
 any-fresh true = refl
@@ -53,11 +53,6 @@ is-one b r e h = rw (sym e ∙ h)
 
 pub is-none : (b r : Bool) → r ≡ b → r ≡ false → 0 ≡ one b
 is-none b r e h = rw (sym e ∙ h)
-
--- a guess at some lines up to `at`
-pub record Guess (at lines stops : ℕ) : Type 0 where
-  pub low : lines ≤ at
-  pub few : stops ≤ lines
 
 -- A LINE THAT IS SEEN, whose row, with any number, passes
 module _ (form : Form) (counts : BlockCounts) (co mo st fo b : List ℕ) (at x n k stops : ℕ) (r : Words) (s : Seen form b at x n k r) where
@@ -94,6 +89,16 @@ module _ (form : Form) (counts : BlockCounts) (co mo st fo b : List ℕ) (at x n
             rw (layout-right .0, layout-right .1)
             (sym (row-passes own true stops (rowOf form Timetbls here) i (any-fresh (isHashRow (rowOf form Timetbls here))) j));
       }
+
+-- WORDS that are not told are not put, and others are
+module _ (x : ℕ) (r : Words) (at : ℕ) (to : Stand) (stops j : ℕ) (was is : List ℕ) (i : ℕ) where
+  pub not-put : r .width ≡ 0 → is ≡ was → WordsPut x r at to stops j was is i Unsure
+  not-put e k = record { put = λ some. nothing (r .width) e some; next = λ some. nothing (r .width) e some; kept = λ z. k; unsure = λ z. refl }
+
+  pub all-put : (r .width ≡ 0 → ⊥) → is ≡ putRow w was i (x ∷ r .one ∷ r .two ∷ r .three ∷ r .four ∷ 0 ∷ j ∷ [])
+      → (more : ℕ) → more ≡ one (isStop x)
+      → WordsPut x r at to stops j was is i (Next (at + r .width + 2) (record { stand = to; stops = stops + more }))
+  all-put n e more m = record { put = λ some. e; next = λ some. rw m; kept = λ z. absurd (n z); unsure = λ z. absurd (n z) }
 
 -- A LINE THAT PASSES leads on
 module _ (form : Form) (counts : BlockCounts) (co mo st fo b : List ℕ) (at : ℕ) (state : InBlock) (n k j : ℕ) (was is : List ℕ) (i : ℕ) where
@@ -142,3 +147,15 @@ module _ (form : Form) (counts : BlockCounts) (co mo st fo b : List ℕ) (at : �
               };
           kept = λ q. absurd (let z : _≡_ {A = ℕ} 0 1 = cc in omega arith);
         }
+
+  -- words that were told, whose line goes on to `to`, or that were not told
+  pub told-turn : (x : ℕ) (r : Words) → (0 < r .width → Passing form counts co mo st fo b at x n k (state .stops) r)
+      → (to : Stand) → goes (state .stand) x ≡ Goes to → (p : LinePut) → WordsPut x r at to (state .stops) j was is i p
+      → LineTurn form keys b at state n k j was is i p
+  told-turn x r passes to g p q = go (r .width) refl
+    where
+      go : (m : ℕ) → r .width ≡ m → LineTurn form keys b at state n k j was is i p
+      go zero e = rw (q .unsure e) (unsure (q .kept e))
+      go (suc m) e =
+          let some : 0 < r .width = omega arith in
+          rw (q .next some) (turned x r some (passes some) to g (one (isStop x)) refl (q .put some))

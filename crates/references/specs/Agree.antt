@@ -14,6 +14,7 @@ use Rattle.iff_rules.specs.Rows.{Context}
 use Rattle.iff_rules.specs.References.{anyCompany, anyMode}
 use Rattle.keys.specs.Lookup.{keysIn, keysAmong}
 use Rattle.references.specs.declared.BlockCounts.{BlockCounts}
+use Rattle.references.specs.declared.StationCounts.{StationCounts}
 use Rattle.references.specs.declared.GroupCounts.{GroupCounts}
 
 -- what a line of a TIMETBLS block names
@@ -28,12 +29,12 @@ pub record StationKeys (c : Context) (cy zo : List ℕ) : Type 0 where
   pub countries : c .keys (Rows Country) ≡ keysIn (Rows Country) cy
   pub zones : c .keys (Groups Timezone) ≡ keysIn (Groups Timezone) zo
 
--- what a row of any file of groups names
-pub record GroupKeys (c : Context) (co mo st se xf : List ℕ) : Type 0 where
+-- what a row of any file of groups names; services among the first n rows of their table, which its reader has counted
+pub record GroupKeys (c : Context) (n : ℕ) (co mo st se xf : List ℕ) : Type 0 where
   pub companies : c .keys (Rows Company) ≡ keysIn (Rows Company) co
   pub modes : c .keys (Rows Trnsmode) ≡ keysIn (Rows Trnsmode) mo
   pub stations : c .keys (Rows Stations) ≡ keysIn (Rows Stations) st
-  pub services : c .keys Timetbls ≡ keysIn Timetbls se
+  pub services : c .keys Timetbls ≡ keysAmong Timetbls n se
   pub xfootnotes : c .keys (Groups Xfootnote) ≡ keysIn (Groups Xfootnote) xf
 
 -- THE SAME AMONG THE FIRST ROWS, so many of each table as were counted
@@ -42,6 +43,11 @@ pub record BlockKeysAmong (c : Context) (n : BlockCounts) (co mo st fo : List �
   pub modes : c .keys (Rows Trnsmode) ≡ keysAmong (Rows Trnsmode) (n .modes) mo
   pub stations : c .keys (Rows Stations) ≡ keysAmong (Rows Stations) (n .stations) st
   pub footnotes : c .keys (Groups Footnote) ≡ keysAmong (Groups Footnote) (n .footnotes) fo
+
+-- what a row of STATIONS names
+pub record StationKeysAmong (c : Context) (n : StationCounts) (cy zo : List ℕ) : Type 0 where
+  pub countries : c .keys (Rows Country) ≡ keysAmong (Rows Country) (n .countries) cy
+  pub zones : c .keys (Groups Timezone) ≡ keysAmong (Groups Timezone) (n .zones) zo
 
 -- what a row of CHANGES names
 pub record ChangeKeysAmong (c : Context) (n : GroupCounts) (st se : List ℕ) : Type 0 where

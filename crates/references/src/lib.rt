@@ -9,7 +9,8 @@ use iff::tags;
 use iff::words;
 ghost use mathlib.Core.Path.{_≡_};
 ghost use mathlib.Core.Bool.{true, _&&_, _||_};
-ghost use Prim.Native.Nat.{_≤_};
+ghost use mathlib.Core.List.{List};
+ghost use Prim.Native.Nat.{ℕ, _≤_};
 ghost use lib.Dec.{eqb};
 ghost use lib.ListN.{length};
 ghost use Rattle.iff.specs.Lists.{has};
@@ -21,7 +22,7 @@ ghost use Rattle.iff.specs.declared.File.the-variants.{Rows, Groups, Timetbls};
 ghost use Rattle.iff_rules.specs.Rows.{Context};
 ghost use Rattle.iff_rules.specs.References.{anyCompany, anyMode, metByRow, metInBlock, metInGroup};
 ghost use Rattle.keys.specs.Lookup.{keysAmong};
-ghost use Rattle.references.specs.Agree.{BlockKeys, BlockKeysAmong, StationKeys, GroupKeys, GroupKeysAmong};
+ghost use Rattle.references.specs.Agree.{BlockKeys, BlockKeysAmong, StationKeys, StationKeysAmong, GroupKeys, GroupKeysAmong};
 ghost use Rattle.references.specs.Agree.{ChangeKeysAmong, ExceptionKeysAmong, metSide, metSides};
 ghost use Rattle.references.specs.Company.{companyNamed};
 
@@ -38,6 +39,12 @@ pub struct BlockCounts {
     pub modes: usize,
     pub stations: usize,
     pub footnotes: usize,
+}
+
+// Of the tables that a row of STATIONS names.
+pub struct StationCounts {
+    pub countries: usize,
+    pub zones: usize,
 }
 
 // Of the tables that files of groups name.
@@ -68,24 +75,34 @@ pub fn count_for_blocks(
     }
 }
 
-// Counts those, likewise.
+// Counts those of STATIONS, likewise.
+pub fn count_for_stations(countries: &[u64], zones: &[u64]) -> StationCounts
+    ensures { λ r. ⌜ ((c : Context) → StationKeys c (now (countries .entry)) (now (zones .entry))
+        → StationKeysAmong c r (now (countries .entry)) (now (zones .entry))) ⌝ }
+{
+    StationCounts {
+        countries: keys::used_rows(File::Rows(RowFile::Country), countries),
+        zones: keys::used_rows(File::Groups(GroupFile::Timezone), zones),
+    }
+}
+
+// Counts those of the files of groups, but for the services': TIMETBLS is by far the largest table, and its rows were counted as they were read.
 pub fn count_for_groups(
     companies: &[u64],
     modes: &[u64],
     stations: &[u64],
-    services: &[u64],
+    service_rows: usize,
     xfootnotes: &[u64],
 ) -> GroupCounts
-    ensures { λ r. ⌜ ((c : Context)
-        → GroupKeys c (now (companies .entry)) (now (modes .entry)) (now (stations .entry)) (now (services .entry)) (now (xfootnotes .entry))
-        → GroupKeysAmong c r (now (companies .entry)) (now (modes .entry)) (now (stations .entry)) (now (services .entry))
-        (now (xfootnotes .entry))) ⌝ }
+    ensures { λ r. ⌜ ((c : Context) (se : List ℕ)
+        → GroupKeys c «service_rows» (now (companies .entry)) (now (modes .entry)) (now (stations .entry)) se (now (xfootnotes .entry))
+        → GroupKeysAmong c r (now (companies .entry)) (now (modes .entry)) (now (stations .entry)) se (now (xfootnotes .entry))) ⌝ }
 {
     GroupCounts {
         companies: keys::used_rows(File::Rows(RowFile::Company), companies),
         modes: keys::used_rows(File::Rows(RowFile::Trnsmode), modes),
         stations: keys::used_rows(File::Rows(RowFile::Stations), stations),
-        services: keys::used_rows(File::Timetbls, services),
+        services: service_rows,
         xfootnotes: keys::used_rows(File::Groups(GroupFile::Xfootnote), xfootnotes),
     }
 }
@@ -167,19 +184,30 @@ pub fn met_in_block(
     )
 }
 
-// A station's country and zone are there.
-fn met_station(row: &[u64], countries: &[u64], zones: &[u64]) -> bool
+// A station's country and zone are there. The places are a hint here too.
+fn met_station(
+    row: &[u64],
+    countries: &[u64],
+    zones: &[u64],
+    counts: StationCounts,
+    places: &[u32],
+) -> bool
     requires { ⌜ length (now row) ≡ rowWidth (Rows Stations) ⌝ }
-    ensures { λ r. ⌜ ((c : Context) → StationKeys c (now (countries .entry)) (now (zones .entry)) → r ≡ metByRow c Stations (now (row .entry))) ⌝ }
+    ensures { λ r. ⌜ ((c : Context) → StationKeysAmong c counts (now (countries .entry)) (now (zones .entry))
+        → r ≡ metByRow c Stations (now (row .entry))) ⌝ }
 {
-    if keys::names(
+    if keys::names_at(
         File::Rows(RowFile::Country),
         countries,
+        counts.countries,
+        places,
         row[words::STATION_COUNTRY],
     ) {
-        return keys::names(
+        return keys::names_at(
             File::Groups(GroupFile::Timezone),
             zones,
+            counts.zones,
+            places,
             row[words::STATION_ZONE],
         );
     }
@@ -339,16 +367,23 @@ fn met_exception(
 }
 
 // What a row of a file of rows names is there. Only STATIONS names anything.
-pub fn met_by_row(file: RowFile, row: &[u64], countries: &[u64], zones: &[u64]) -> bool
+pub fn met_by_row(
+    file: RowFile,
+    row: &[u64],
+    countries: &[u64],
+    zones: &[u64],
+    counts: StationCounts,
+    places: &[u32],
+) -> bool
     requires { ⌜ length (now row) ≡ rowWidth (Rows file) ⌝ }
-    ensures { λ r. ⌜ ((c : Context) → StationKeys c (now (countries .entry)) (now (zones .entry))
+    ensures { λ r. ⌜ ((c : Context) → StationKeysAmong c counts (now (countries .entry)) (now (zones .entry))
         → r ≡ metByRow c file (now (row .entry))) ⌝ }
 {
     match file {
         RowFile::Company => true,
         RowFile::Country => true,
         RowFile::Trnsmode => true,
-        RowFile::Stations => met_station(row, countries, zones),
+        RowFile::Stations => met_station(row, countries, zones, counts, places),
     }
 }
 

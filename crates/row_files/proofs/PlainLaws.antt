@@ -21,7 +21,8 @@ use Rattle.iff_rules.specs.Meaning.{rowMeaning}
 use Rattle.iff_rules.specs.Unique.{freshKey, freshTexts}
 use Rattle.iff_rules.specs.References.{metByRow}
 use Rattle.keys.specs.Lookup.{keysIn}
-use Rattle.references.specs.Agree.{StationKeys}
+use Rattle.references.specs.Agree.{StationKeysAmong}
+use Rattle.references.specs.declared.StationCounts.{StationCounts}
 use Rattle.fresh_texts.specs.Texts.{asLine}
 use Rattle.records.specs.Layouts.{layoutTest}
 use Rattle.row_files.specs.Tests.{plainRowTest}
@@ -35,7 +36,7 @@ use Rattle.fresh_keys.specs.Runs.{runOf}
 use Rattle.fresh_keys.specs.declared.KeyRun.{KeyRun}
 use Rattle.row_files.specs.declared.RowKept.{RowKept}
 use Rattle.row_files.specs.declared.RowKept.the-variants.{Key, Refused}
-use Rattle.row_files.specs.Plain.{Earlier, PlainRow, RowStored, LineAdded}
+use Rattle.row_files.specs.Plain.{Earlier, LinesMarked, PlainRow, RowStored, LineAdded}
 use Rattle.row_files.proofs.TestLaws.{plain-split}
 
 -- the four tests as the code makes them
@@ -51,10 +52,10 @@ module _ (f : RowFile) (count : ℕ) (before t line : List ℕ) (r : Row) (keyed
   row-test-is p q s u = rw (p, q, s, u, e .number, e .keys, e .text, keyed)
 
 -- a row that is refused, and one that is kept
-module _ (f : RowFile) (count : ℕ) (before countries zones : List ℕ) (l : Line) (row was : List ℕ) (x : Test)
-    (says : (c : Context) → StationKeys c countries zones → (earlier : List Line) → Earlier c f count before was earlier
+module _ (f : RowFile) (count : ℕ) (before : List ℕ) (counts : StationCounts) (countries zones : List ℕ) (l : Line) (row was : List ℕ) (x : Test)
+    (says : (c : Context) → StationKeysAmong c counts countries zones → (earlier : List Line) → Earlier c f count before was earlier
     → x ≡ plainRowTest c f earlier l row) where
-  pub row-refused : (k : Reason) → x ≡ Fails k → RowStored f count before countries zones l row was was (Refused k)
+  pub row-refused : (k : Reason) → x ≡ Fails k → RowStored f count before counts countries zones l row was was (Refused k)
   row-refused k p =
       record {
         test = λ c s earlier e. sym p ∙ says c s earlier e;
@@ -65,7 +66,7 @@ module _ (f : RowFile) (count : ℕ) (before countries zones : List ℕ) (l : Li
 
   pub row-stored : (is : List ℕ) (key w k : ℕ) → x ≡ Passes → length row ≡ w → w ≡ rowWidth (Rows f)
       → (count + 1) * rowWidth (Rows f) + rowWidth (Rows f) ≤ length was → is ≡ putRow w was (count + 1) row
-      → k ≡ keyWord (Rows f) → key ≡ word row k → RowStored f count before countries zones l row was is (Key key)
+      → k ≡ keyWord (Rows f) → key ≡ word row k → RowStored f count before counts countries zones l row was is (Key key)
   row-stored is key w k p n m h q d e =
       record {
         test = λ c s earlier g. sym p ∙ says c s earlier g;
@@ -75,13 +76,14 @@ module _ (f : RowFile) (count : ℕ) (before countries zones : List ℕ) (l : Li
       }
 
 -- a line that is refused by its layout, and one whose row is read
-module _ (f : RowFile) (form : Form) (count : ℕ) (before countries zones : List ℕ) (l : Line) (was : List ℕ) (kind : Record) (k : kind ≡ rowRecord f)
+module _ (f : RowFile) (form : Form) (count : ℕ) (before : List ℕ) (counts : StationCounts) (countries zones : List ℕ) (l : Line) (was : List ℕ)
+    (kind : Record) (k : kind ≡ rowRecord f)
   where
     layout-is : (c : Context) → c .form ≡ form → layoutTest l (fieldsOf (c .form) (Rows f) (letter l)) ≡ layoutTest l (recordFields form kind)
     layout-is c d = rw (row-fields (c .form) f (letter l), d, k)
 
     pub line-refused : (x : Test) (r : Reason) → x ≡ layoutTest l (recordFields form kind) → x ≡ Fails r
-        → LineAdded f form count before countries zones l was was (Refused r)
+        → LineAdded f form count before counts countries zones l was was (Refused r)
     line-refused x r e p =
         record {
           test = λ c d s earlier g. sym (plain-split c f earlier l ∙ rw (layout-is c d, ← e, p));
@@ -95,16 +97,18 @@ module _ (f : RowFile) (form : Form) (count : ℕ) (before countries zones : Lis
       pub row-is : row ≡ rowOf form (Rows f) l
       row-is = w ∙ (rw (n, k) (row-put form f l))
 
-      pub row-plain : (t : List ℕ) (run : KeyRun) → run ≡ runOf (keysIn (Rows f) t) → PlainRow f row t run
-      row-plain t run r =
+      pub row-plain : (t : List ℕ) (run : KeyRun) (marks : List ℕ) → run ≡ runOf (keysIn (Rows f) t) → LinesMarked f before t marks
+          → PlainRow f row before t run marks
+      row-plain t run marks r m =
           record {
             width = rw row-is (row-length form (Rows f) l);
             keyed = rw (row-is, row-tag form (Rows f) l);
             runs = r;
+            marked = m;
           }
 
-      pub line-added : (is : List ℕ) (r : RowKept) → RowStored f count before countries zones (asLine (l .body)) row was is r
-          → LineAdded f form count before countries zones l was is r
+      pub line-added : (is : List ℕ) (r : RowKept) → RowStored f count before counts countries zones (asLine (l .body)) row was is r
+          → LineAdded f form count before counts countries zones l was is r
       unfolding plainRowTest freshTexts
       line-added is r d =
           record {

@@ -36,16 +36,20 @@ use Rattle.tables.proofs.Each.{Each}
 use Rattle.tables.proofs.Rows.{Used}
 use Rattle.tables.proofs.Filled.{fill-next, length-fill}
 use Rattle.records.proofs.FileLaws.{row-used, row-tag}
-use Rattle.keys.specs.Lookup.{keysIn, isKeyRow}
+use Rattle.keys.specs.Lookup.{keysIn, keysAmong, isKeyRow}
 use Rattle.fresh_keys.specs.Runs.{noKeys, stepRun, runOf}
-use Rattle.references.specs.Agree.{StationKeys}
+use Rattle.references.specs.Agree.{StationKeysAmong}
+use Rattle.references.specs.declared.StationCounts.{StationCounts}
 use Rattle.fresh_keys.specs.declared.KeyRun.{KeyRun}
 use Rattle.fresh_keys.proofs.Runs.{run-rises, run-key}
-use Rattle.keys.proofs.Fills.{keys-in-fill}
-use Rattle.reading.specs.Reading.{Begun, RowsDone}
+use Rattle.keys.proofs.Fills.{keys-in-fill, keys-next}
+use Rattle.text_numbers.specs.Numbers.{numbersOf}
+use Rattle.text_numbers.proofs.NumberLaws.{numbers-next}
+use Rattle.row_marks.specs.Remembered.{spreadOf, Remembers, LineMarked}
+use Rattle.reading.specs.Reading.{Begun}
 use Rattle.reading.specs.declared.RowsRead.the-variants.{AllRead, Stopped}
 use Rattle.row_files.specs.Tests.{plainRowTest}
-use Rattle.row_files.specs.Plain.{firstIn, PlainBegun, PlainLine, Earlier, LineAdded, testOf, keptKey}
+use Rattle.row_files.specs.Plain.{firstIn, PlainBegun, RowsOf, PlainLine, Earlier, LineAdded, testOf, keptKey}
 use Rattle.row_files.specs.declared.RowKept.{RowKept}
 use Rattle.row_files.specs.declared.RowKept.the-variants.{Key, Refused}
 use Rattle.row_files.proofs.TestLaws.{plain-split}
@@ -62,11 +66,15 @@ passing-ended c f earlier l e = go (l .ended) refl (laid l (fieldsOf (c .form) (
     go false p false q r = absurd (let z : _≡_ {A = ℕ} 0 1 = cc in omega arith)
 
 -- the context that holds what two tables name, and nothing else
-abbrev own : Form → List ℕ → List ℕ → Context
-own form cy zo = record { form = form; keys = λ f. keysIn f (of (eleven [] [] cy [] zo [] [] [] [] [] []) f) }
+abbrev own : Form → StationCounts → List ℕ → List ℕ → Context
+own form n cy zo =
+    record {
+      form = form;
+      keys = λ f. keysAmong f (of (eleven 0 0 (n .countries) 0 (n .zones) 0 0 0 0 0 0) f) (of (eleven [] [] cy [] zo [] [] [] [] [] []) f);
+    }
 
-own-agrees : (form : Form) (cy zo : List ℕ) → StationKeys (own form cy zo) cy zo
-own-agrees form cy zo = record { countries = refl; zones = refl }
+own-agrees : (form : Form) (n : StationCounts) (cy zo : List ℕ) → StationKeysAmong (own form n cy zo) n cy zo
+own-agrees form n cy zo = record { countries = refl; zones = refl }
 
 abbrev testAt : Context → RowFile → List Line → ℕ → Line → Verdict
 testAt c f earlier i l = verdictAt (At (Rows f) 0 i) (plainTest c f earlier l)
@@ -78,32 +86,36 @@ rows-used : (form : Form) (f : RowFile) → (ls : List Line) → Each (Used (row
 rows-used form f [] = tt
 rows-used form f (l ∷ ls) = (row-used form (Rows f) l refl, rows-used form f ls)
 
-module _ (f : RowFile) (form : Form) (text : List ℕ) (from : ℕ) (countries zones was : List ℕ) where
+module _ (f : RowFile) (form : Form) (text : List ℕ) (from : ℕ) (counts : StationCounts) (countries zones was : List ℕ) where
   abbrev rest : List Line
   rest = lines (drop from text)
 
   abbrev rowsTo : ℕ → List Row
   rowsTo j = map (rowOf form (Rows f)) (take j rest)
 
-  pub record Reading (t : List ℕ) (run : KeyRun) (at j : ℕ) : Type 0 where
+  pub record Reading (t : List ℕ) (run : KeyRun) (marks : List ℕ) (at j : ℕ) : Type 0 where
     pub cut : Cut text from at j
     pub inside : at ≤ length text
     pub within : j ≤ length rest
     pub holds : t ≡ fill (rowWidth (Rows f)) (length was) (firstIn f was ∷ rowsTo j)
     pub runs : run ≡ runOf (keysOf (Rows f) (rowsTo j))
-    pub left : (c : Context) → c .form ≡ form → StationKeys c countries zones
+    pub keys : Remembers marks (map spreadOf (keysOf (Rows f) (rowsTo j)))
+    pub texts : Remembers marks (numbersOf f (take j rest))
+    pub left : (c : Context) → c .form ≡ form → StationKeysAmong c counts countries zones
         → plainVerdict c f rest ≡ scan (testAt c f) with-one (take j rest) (j + 2) (drop j rest)
 
   module _ (b : PlainBegun f text from was) where
-    pub starts : Reading was noKeys from 0
-    unfolding plainVerdict kept after
-    starts =
+    pub starts : (marks : List ℕ) → Remembers marks [] → Reading was noKeys marks from 0
+    unfolding plainVerdict kept after numbersOf
+    starts marks m =
         record {
           cut = cut-start text from;
           inside = b .inside;
           within = omega arith;
           holds = b .begun .holds;
           runs = refl;
+          keys = m;
+          texts = m;
           left = λ c d s. refl;
         }
 
@@ -134,7 +146,7 @@ module _ (f : RowFile) (form : Form) (text : List ℕ) (from : ℕ) (countries z
     length-is t j h e = ap length e ∙ length-fill (rowWidth (Rows f)) (length was) (firstIn f was ∷ rowsTo j) (all-used j) (rows-fit j h)
 
     -- one line
-    module _ (t : List ℕ) (run : KeyRun) (at j : ℕ) (i : Reading t run at j) (s : LineSpan) (a : LineAt text at s) where
+    module _ (t : List ℕ) (run : KeyRun) (marks : List ℕ) (at j : ℕ) (i : Reading t run marks at j) (s : LineSpan) (a : LineAt text at s) where
       abbrev line : Line
       line = spanLine text at s
 
@@ -143,11 +155,16 @@ module _ (f : RowFile) (form : Form) (text : List ℕ) (from : ℕ) (countries z
           let h : length (drop j rest) ≡ suc (length (lines (drop (s .next) text))) = ap length (cut-head text from at j s (i .cut) a) in
           omega (arith, length-drop j rest)
 
-      pub line-room : j + 1 < 2 ^ 64 → PlainLine f j t run
+      pub line-room : j + 1 < 2 ^ 64 → PlainLine f j (take (at - from) (drop from text)) t run marks
       line-room few =
           let m : suc (j + 1) ≤ suc (length rest) = omega (arith, more) in
           record {
             runs = i .runs ∙ rw (keys-are t j (omega (arith, more)) (i .holds));
+            marked =
+                record {
+                  keys = rw (keys-are t j (omega (arith, more)) (i .holds)) (i .keys);
+                  texts = rw (i .cut .front) (i .texts);
+                };
             room =
                 rw (length-is t j (omega (arith, more)) (i .holds)) (omega (arith, rw suc-mul at (mul-le-mul-right (rowWidth (Rows f)) m), b .begun .room));
             few = few;
@@ -161,18 +178,18 @@ module _ (f : RowFile) (form : Form) (text : List ℕ) (from : ℕ) (countries z
             keys = rw d (keys-are t j (omega (arith, more)) (i .holds));
           }
 
-      turn : (c : Context) → c .form ≡ form → StationKeys c countries zones
+      turn : (c : Context) → c .form ≡ form → StationKeysAmong c counts countries zones
           → plainVerdict c f rest
           ≡ orElse (testAt c f (take j rest) (j + 2) line) (scan (testAt c f) with-one (with-one (take j rest) line) (suc (j + 2)) (lines (drop (s .next) text)))
       unfolding scan
       turn c d e = i .left c d e ∙ ap (scan (testAt c f) with-one (take j rest) (j + 2)) (cut-head text from at j s (i .cut) a)
 
-      module _ (is : List ℕ) (r : RowKept) (l : LineAdded f form j (take (at - from) (drop from text)) countries zones line t is r) where
-        test-is : (c : Context) → c .form ≡ form → StationKeys c countries zones → testOf r ≡ plainTest c f (take j rest) line
+      module _ (is : List ℕ) (r : RowKept) (l : LineAdded f form j (take (at - from) (drop from text)) counts countries zones line t is r) where
+        test-is : (c : Context) → c .form ≡ form → StationKeysAmong c counts countries zones → testOf r ≡ plainTest c f (take j rest) line
         test-is c d e = l .test c d e (take j rest) (earlier c d)
 
         pub stops : (k : Reason) (n : ℕ) → r ≡ Refused k → n ≡ j + 2
-            → RowsDone (Rows f) form (λ c. StationKeys c countries zones) (λ c. plainVerdict c f rest) (firstIn f was) (map (rowOf form (Rows f)) rest) was is (Stopped k (At (Rows f) 0 n))
+            → RowsOf f form (λ c. StationKeysAmong c counts countries zones) text from was is (Stopped k (At (Rows f) 0 n))
         stops k n p q =
             record {
               verdict = λ c d e. sym (turn c d e ∙ rw (← (test-is c d e), p, q));
@@ -187,8 +204,8 @@ module _ (f : RowFile) (form : Form) (text : List ℕ) (from : ℕ) (countries z
 
           ended : s .ended ≡ true
           ended =
-              passing-ended (own form countries zones) f (take j rest) line
-              (sym passes ∙ test-is (own form countries zones) refl (own-agrees form countries zones))
+              passing-ended (own form counts countries zones) f (take j rest) line
+              (sym passes ∙ test-is (own form counts countries zones) refl (own-agrees form counts countries zones))
 
           rows-next : rowsTo (j + 1) ≡ rowsTo j ++ (rowOf form (Rows f) line ∷ [])
           rows-next =
@@ -208,7 +225,7 @@ module _ (f : RowFile) (form : Form) (text : List ℕ) (from : ℕ) (countries z
           run-is : stepRun run key ≡ runOf (keysOf (Rows f) (rowsTo (j + 1)))
           run-is = rw (rows-next, i .runs, key-is) (sym (run-key (Rows f) (rowsTo j) (rowOf form (Rows f) line) keyed))
 
-          on-is : (c : Context) → c .form ≡ form → StationKeys c countries zones
+          on-is : (c : Context) → c .form ≡ form → StationKeysAmong c counts countries zones
               → orElse (testAt c f (take j rest) (j + 2) line)
               (scan (testAt c f) with-one (with-one (take j rest) line) (suc (j + 2)) (lines (drop (s .next) text))) ≡ scan (testAt c f) with-one
               (take (j + 1) rest) (j + 1 + 2) (drop (j + 1) rest)
@@ -216,27 +233,45 @@ module _ (f : RowFile) (form : Form) (text : List ℕ) (from : ℕ) (countries z
               let n : j + 1 + 2 ≡ suc (j + 2) = omega arith in
               rw (← (test-is c d e), passes, n, cut-front text from at j s (i .cut) a, ← (cut-next text from at j s (i .cut) a ended .rest))
 
-          pub goes-on : (run′ : KeyRun) → run′ ≡ stepRun run key → Reading is run′ (s .next) (j + 1)
-          goes-on run′ q =
+          -- the line's key and its texts, beside those before
+          module _ (marks′ : List ℕ) (m : LineMarked f (line .body) key marks marks′) where
+            keys-marked : Remembers marks′ (map spreadOf (keysOf (Rows f) (rowsTo (j + 1))))
+            keys-marked =
+                rw (
+                  rows-next,
+                  keys-next (Rows f) (rowsTo j) (rowOf form (Rows f) line) keyed,
+                  ← key-is,
+                  map-append spreadOf (keysOf (Rows f) (rowsTo j)) (key ∷ []),
+                )
+                (m .keys (map spreadOf (keysOf (Rows f) (rowsTo j))) (i .keys))
+
+            texts-marked : Remembers marks′ (numbersOf f (take (j + 1) rest))
+            texts-marked =
+                rw (cut-front text from at j s (i .cut) a, numbers-next f (take j rest) line) (m .texts (numbersOf f (take j rest)) (i .texts))
+
+          pub goes-on : (run′ : KeyRun) (marks′ : List ℕ) → run′ ≡ stepRun run key → LineMarked f (line .body) key marks marks′
+              → Reading is run′ marks′ (s .next) (j + 1)
+          goes-on run′ marks′ q m =
               record {
                 cut = cut-next text from at j s (i .cut) a ended;
                 inside = a .high;
                 within = omega (arith, more);
                 holds = l .table passes ∙ put-is;
                 runs = q ∙ run-is;
+                keys = keys-marked marks′ m;
+                texts = texts-marked marks′ m;
                 left = λ c d e. turn c d e ∙ on-is c d e;
               }
 
     -- no line is left
-    module _ (t : List ℕ) (run : KeyRun) (at j : ℕ) (i : Reading t run at j) (h : length text ≤ at) where
+    module _ (t : List ℕ) (run : KeyRun) (marks : List ℕ) (at j : ℕ) (i : Reading t run marks at j) (h : length text ≤ at) where
       none-left : drop j rest ≡ []
       none-left = sym (i .cut .rest) ∙ lines-end text at h
 
       all-read : take j rest ≡ rest
       all-read = take-all j rest (omega (arith, ap length none-left, length-drop j rest))
 
-      pub ends : RowsDone (Rows f) form (λ c. StationKeys c countries zones) (λ c. plainVerdict c f rest) (firstIn f was)
-          (map (rowOf form (Rows f)) rest) was t (AllRead (run .rises))
+      pub ends : RowsOf f form (λ c. StationKeysAmong c counts countries zones) text from was t (AllRead (run .rises))
       unfolding scan
       ends =
           record {

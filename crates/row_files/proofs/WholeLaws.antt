@@ -16,7 +16,7 @@ use Rattle.iff_rules.specs.Rows.{rowOf, laterRows, firstRowOf, Context}
 use Rattle.iff_rules.specs.Load.{plainVerdict, laterVerdict}
 use Rattle.reading.specs.declared.RowsRead.{RowsRead}
 use Rattle.reading.specs.Reading.{headLine, Begun, Split, RowsDone}
-use Rattle.row_files.specs.Plain.{firstIn, PlainBegun}
+use Rattle.row_files.specs.Plain.{firstIn, PlainBegun, RowsOf}
 
 -- the row that begins a table stands first in it
 first-in : (f : RowFile) (n : ℕ) (first : Row) (t : List ℕ) → length first ≡ rowWidth (Rows f) → t ≡ fill (rowWidth (Rows f)) n (first ∷ [])
@@ -33,3 +33,9 @@ plain-begun f text t from s =
       inside = s .inside;
       begun = rw (begun-first f _ _ t (s .begun)) (s .begun);
     }
+
+-- rows that were read for every context of some are so for each of fewer
+pub for-fewer : (f : RowFile) (form : Form) (Agree Fewer : Context → Type 0) (text : List ℕ) (from : ℕ) (was is : List ℕ) (r : RowsRead)
+    → ((c : Context) → Fewer c → Agree c) → RowsOf f form Agree text from was is r → RowsOf f form Fewer text from was is r
+for-fewer f form Agree Fewer text from was is r a d =
+    record { verdict = λ c e g. d .verdict c e (a c g); table = d .table; rises = d .rises; kept = d .kept }

@@ -14,25 +14,36 @@ use Rattle.iff.specs.declared.Reason.{Reason}
 use Rattle.iff.specs.declared.Test.{Test}
 use Rattle.iff.specs.declared.Test.the-variants.{Passes, Fails}
 use Rattle.iff_rules.specs.Rows.{rowOf, Context}
-use Rattle.iff_rules.specs.Load.{plainTest}
+use Rattle.iff_rules.specs.Load.{plainTest, plainVerdict}
 use Rattle.keys.specs.Lookup.{keysIn}
 use Rattle.fresh_keys.specs.Runs.{runOf}
 use Rattle.fresh_keys.specs.declared.KeyRun.{KeyRun}
-use Rattle.references.specs.Agree.{StationKeys}
-use Rattle.reading.specs.Reading.{Begun}
+use Rattle.references.specs.Agree.{StationKeysAmong}
+use Rattle.references.specs.declared.StationCounts.{StationCounts}
+use Rattle.text_numbers.specs.Numbers.{numbersOf}
+use Rattle.row_marks.specs.Remembered.{spreadOf, Remembers}
+use Rattle.reading.specs.Reading.{Begun, RowsDone}
+use Rattle.reading.specs.declared.RowsRead.{RowsRead}
 use Rattle.row_files.specs.Tests.{plainRowTest}
 use Rattle.row_files.specs.declared.RowKept.{RowKept}
 use Rattle.row_files.specs.declared.RowKept.the-variants.{Key, Refused}
 
+-- the lines before are remembered: their keys, which the table has, and their texts
+pub record LinesMarked (f : RowFile) (before t marks : List ℕ) : Type 0 where
+  pub keys : Remembers marks (map spreadOf (keysIn (Rows f) t))
+  pub texts : Remembers marks (numbersOf f (lines before))
+
 -- a row, beside the table of those before it
-pub record PlainRow (f : RowFile) (r : Row) (t : List ℕ) (run : KeyRun) : Type 0 where
+pub record PlainRow (f : RowFile) (r : Row) (before t : List ℕ) (run : KeyRun) (marks : List ℕ) : Type 0 where
   pub width : length r ≡ rowWidth (Rows f)
   pub keyed : eqb (tag r) (keyTag (Rows f)) ≡ true
   pub runs : run ≡ runOf (keysIn (Rows f) t)
+  pub marked : LinesMarked f before t marks
 
 -- a line that is to be row `count + 1` of a table
-pub record PlainLine (f : RowFile) (count : ℕ) (t : List ℕ) (run : KeyRun) : Type 0 where
+pub record PlainLine (f : RowFile) (count : ℕ) (before t : List ℕ) (run : KeyRun) (marks : List ℕ) : Type 0 where
   pub runs : run ≡ runOf (keysIn (Rows f) t)
+  pub marked : LinesMarked f before t marks
   pub room : (count + 1) * rowWidth (Rows f) + rowWidth (Rows f) ≤ length t
   pub few : count + 1 < 2 ^ 64
 
@@ -51,19 +62,21 @@ keptKey (Key k) = k
 keptKey (Refused r) = 0
 
 -- a row's tests, and the row put after the rows that are there
-pub record RowStored (f : RowFile) (count : ℕ) (before countries zones : List ℕ) (l : Line) (row was is : List ℕ) (r : RowKept) : Type 0 where
+pub record RowStored (f : RowFile) (count : ℕ) (before : List ℕ) (counts : StationCounts) (countries zones : List ℕ) (l : Line) (row was is : List ℕ)
+    (r : RowKept) : Type 0 where
   pub test :
-      (c : Context) → StationKeys c countries zones → (earlier : List Line) → Earlier c f count before was earlier
+      (c : Context) → StationKeysAmong c counts countries zones → (earlier : List Line) → Earlier c f count before was earlier
       → testOf r ≡ plainRowTest c f earlier l row
   pub table : testOf r ≡ Passes → is ≡ putRow (rowWidth (Rows f)) was (count + 1) row
   pub key : testOf r ≡ Passes → keptKey r ≡ word row (keyWord (Rows f))
   pub kept : length is ≡ length was
 
 -- a line's tests, and its row put after the rows that are there
-pub record LineAdded (f : RowFile) (form : Form) (count : ℕ) (before countries zones : List ℕ) (l : Line) (was is : List ℕ) (r : RowKept) : Type 0
+pub record LineAdded (f : RowFile) (form : Form) (count : ℕ) (before : List ℕ) (counts : StationCounts) (countries zones : List ℕ) (l : Line)
+    (was is : List ℕ) (r : RowKept) : Type 0
   where
     pub test :
-        (c : Context) → c .form ≡ form → StationKeys c countries zones → (earlier : List Line) → Earlier c f count before was earlier
+        (c : Context) → c .form ≡ form → StationKeysAmong c counts countries zones → (earlier : List Line) → Earlier c f count before was earlier
         → testOf r ≡ plainTest c f earlier l
     pub table : testOf r ≡ Passes → is ≡ putRow (rowWidth (Rows f)) was (count + 1) (rowOf form (Rows f) l)
     pub key : testOf r ≡ Passes → keptKey r ≡ word (rowOf form (Rows f) l) (keyWord (Rows f))
@@ -77,3 +90,9 @@ firstIn f t = take (rowWidth (Rows f)) t
 pub record PlainBegun (f : RowFile) (text : List ℕ) (from : ℕ) (t : List ℕ) : Type 0 where
   pub inside : from ≤ length text
   pub begun : Begun (Rows f) (length (lines (drop from text))) (firstIn f t) t
+
+-- the rows that were read from `from` on
+abbrev pub RowsOf : RowFile → Form → (Context → Type 0) → List ℕ → ℕ → List ℕ → List ℕ → RowsRead → Type 0
+RowsOf f form Agree text from was is r =
+    RowsDone (Rows f) form Agree (λ c. plainVerdict c f (lines (drop from text))) (firstIn f was)
+    (map (rowOf form (Rows f)) (lines (drop from text))) was is r

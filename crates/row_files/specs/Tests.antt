@@ -1,10 +1,13 @@
--- The tests of a row of a file of rows, as the code makes them once its line's layout and values are right.
+-- The tests of a row of a file of rows, as the code makes them once its line's layout and values are right; and by which way its file is read.
+use Prim.Native.Nat.{ℕ}
+use mathlib.Core.Bool.{Bool, true, false}
 use mathlib.Core.List.{List, [], _∷_, map}
 use lib.ListN.{length}
 use Rattle.iff.specs.Refusals.{firstTest, unless}
 use Rattle.iff.specs.Lines.{Line}
 use Rattle.iff.specs.Tables.{Row, keysOf}
 use Rattle.iff.specs.declared.RowFile.{RowFile}
+use Rattle.iff.specs.declared.RowFile.the-variants.{Company, Country, Trnsmode, Stations}
 use Rattle.iff.specs.declared.File.the-variants.{Rows}
 use Rattle.iff.specs.declared.Reason.the-variants.{Value, Duplicate, Reference}
 use Rattle.iff.specs.declared.Test.{Test}
@@ -22,3 +25,16 @@ plainRowTest c f earlier l r =
     ∷ unless (freshTexts f earlier l) Duplicate
     ∷ unless (metByRow c f r) Reference
     ∷ [])
+
+-- from so many bytes on a file's lines are marked, which is a matter of time alone
+abbrev pub longFrom : RowFile → ℕ
+longFrom Company = 2048
+longFrom Country = 2048
+longFrom Trnsmode = 2048
+longFrom Stations = 65536
+
+abbrev pub namesOthers : RowFile → Bool
+namesOthers Company = false
+namesOthers Country = false
+namesOthers Trnsmode = false
+namesOthers Stations = true

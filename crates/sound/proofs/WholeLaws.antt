@@ -1,12 +1,12 @@
 -- Soundness put together again: a chain of tests over the files, and the parts of the whole. Assumes nothing.
-use Prim.Native.Nat.{ℕ, zero, suc, _+_, _*_, _<_}
+use Prim.Native.Nat.{ℕ, zero, suc, _+_, _*_, _≤_, _<_}
 use mathlib.Core.Path.{_≡_, refl, ap, sym, _∙_}
 use mathlib.Core.List.{List, [], _∷_}
 use mathlib.Core.Bool.{Bool, true, false, _&&_, cond, and-true, and-false, false≢true}
 use native.Mathlib.Omega.{arith}
-use borrow.Author.Tests.{le-ltb, ltb-true}
+use borrow.Author.Tests.{le-ltb, lt-ltb, ltb-true, ltb-false}
 use lib.Dec.{ltb, leb}
-use lib.ListN.{length, drop}
+use lib.ListN.{length, getD, drop}
 use Rattle.iff.specs.Lists.{all, allOf, total, has}
 use Rattle.iff.specs.Files.{PerFile, of, inOrder, needed, limit}
 use Rattle.iff.specs.Columns.{form424}
@@ -25,16 +25,18 @@ use Rattle.keys.specs.Lookup.{keysIn}
 use Rattle.keys.proofs.Among.{keys-counted}
 use Rattle.references.specs.Agree.{StationKeys, GroupKeysAmong, BlockKeysAmong}
 use Rattle.sound.specs.declared.UsedRows.{UsedRows}
+use Rattle.walks.proofs.TableLaws.{tag-first}
+use Rattle.sound_blocks.proofs.UsedLaws.{room-ends, rows-end, row-used}
 use Rattle.sound_frames.specs.Frames.{framedRows, framed}
 use Rattle.sound_behind.specs.Behind.{behind}
-use Rattle.sound.specs.Whole.{Counted, there, allThere, allFramed, allBehind}
+use Rattle.sound.specs.Whole.{Counted, there, allThere, butTimetbls, allFramed, allBehind, timetblsSound}
 
--- A CHAIN OF TESTS, each of which hands a refusal on, is the test of all
+-- A CHAIN OF TESTS, each of which hands a refusal on, is the test of all but TIMETBLS
 back : (b x r s : Bool) → r ≡ (b && x) → (r && s) ≡ (b && (x && s))
 back true x r s e = ap (λ y. y && s) e
 back false x r s e = ap (λ y. y && s) e
 
-pub in-order : (p : File → Bool) (b1 b2 b3 b4 b5 b6 b7 b8 b9 b10 b11 : Bool)
+pub in-order : (p : File → Bool) (b1 b2 b3 b4 b5 b6 b7 b8 b9 b10 : Bool)
     → b1 ≡ p Delivery
     → b2 ≡ (b1 && p (Rows Company))
     → b3 ≡ (b2 && p (Rows Country))
@@ -42,32 +44,30 @@ pub in-order : (p : File → Bool) (b1 b2 b3 b4 b5 b6 b7 b8 b9 b10 b11 : Bool)
     → b5 ≡ (b4 && p (Groups Timezone))
     → b6 ≡ (b5 && p (Rows Stations))
     → b7 ≡ (b6 && p (Groups Footnote))
-    → b8 ≡ (b7 && p Timetbls)
-    → b9 ≡ (b8 && p (Groups Changes))
-    → b10 ≡ (b9 && p (Groups Xfootnote))
-    → b11 ≡ (b10 && p (Groups Xchanges))
-    → b11 ≡ all p inOrder
+    → b8 ≡ (b7 && p (Groups Changes))
+    → b9 ≡ (b8 && p (Groups Xfootnote))
+    → b10 ≡ (b9 && p (Groups Xchanges))
+    → b10 ≡ all (butTimetbls p) inOrder
 unfolding all
-in-order p b1 b2 b3 b4 b5 b6 b7 b8 b9 b10 b11 e1 e2 e3 e4 e5 e6 e7 e8 e9 e10 e11 =
-    sym (and-true b11)
-    ∙ back b10 (p (Groups Xchanges)) b11 _ e11
-    ∙ back b9 (p (Groups Xfootnote)) b10 _ e10
-    ∙ back b8 (p (Groups Changes)) b9 _ e9
-    ∙ back b7 (p Timetbls) b8 _ e8
+in-order p b1 b2 b3 b4 b5 b6 b7 b8 b9 b10 e1 e2 e3 e4 e5 e6 e7 e8 e9 e10 =
+    sym (and-true b10)
+    ∙ back b9 (p (Groups Xchanges)) b10 _ e10
+    ∙ back b8 (p (Groups Xfootnote)) b9 _ e9
+    ∙ back b7 (p (Groups Changes)) b8 _ e8
     ∙ back b6 (p (Groups Footnote)) b7 _ e7
     ∙ back b5 (p (Rows Stations)) b6 _ e6
     ∙ back b4 (p (Groups Timezone)) b5 _ e5
     ∙ back b3 (p (Rows Trnsmode)) b4 _ e4
     ∙ back b2 (p (Rows Country)) b3 _ e3
     ∙ back b1 (p (Rows Company)) b2 _ e2
-    ∙ ap (λ b. b && all p (drop 1 inOrder)) e1
+    ∙ ap (λ b. b && all (butTimetbls p) (drop 1 inOrder)) e1
 
 -- WHICH TABLES ARE THERE, by their rows counted
-abbrev pub byCounts : UsedRows → Bool
-byCounts u =
+abbrev pub byCounts : UsedRows → Bool → Bool
+byCounts u timetbls =
     (ltb 0 (u .delivery) && (ltb 0 (u .company) && ltb 0 (u .country)))
     && ((ltb 0 (u .trnsmode) && (ltb 0 (u .timezone) && ltb 0 (u .stations)))
-    && (ltb 0 (u .footnote) && (ltb 0 (u .timetbls) && cond (ltb 0 (u .xchanges)) (ltb 0 (u .xfootnote)) true)))
+    && (ltb 0 (u .footnote) && (timetbls && cond (ltb 0 (u .xchanges)) (ltb 0 (u .xfootnote)) true)))
 
 three-then : (a b c s : Bool) → ((a && (b && c)) && s) ≡ (a && (b && (c && s)))
 three-then true true c s = refl
@@ -78,16 +78,33 @@ last-three : (a b : Bool) → cond a b true ≡ (true && (cond a b true && (true
 last-three true b = sym (and-true b)
 last-three false b = refl
 
-pub counts-there : (T : PerFile (List ℕ)) (u : UsedRows) → Counted T u → byCounts u ≡ allThere (rowsOfTables T)
+pub counts-there : (T : PerFile (List ℕ)) (u : UsedRows) → Counted T u → (b : Bool) → b ≡ ltb 0 (length (rowsIn Timetbls (T .timetbls)))
+    → byCounts u b ≡ allThere (rowsOfTables T)
 unfolding allThere all
-counts-there T u k =
+counts-there T u k b m =
     let h : File → Bool = heldIn (rowsOfTables T) in
-    rw (k .delivery, k .company, k .country, k .trnsmode, k .timezone, k .stations, k .footnote, k .timetbls, k .xfootnote, k .xchanges)
+    rw (k .delivery, k .company, k .country, k .trnsmode, k .timezone, k .stations, k .footnote, m, k .xfootnote, k .xchanges)
     (three-then (h Delivery) (h (Rows Company)) (h (Rows Country)) _
     ∙ ap (λ s. h Delivery && (h (Rows Company) && (h (Rows Country) && s)))
     (three-then (h (Rows Trnsmode)) (h (Groups Timezone)) (h (Rows Stations)) _
     ∙ ap (λ s. h (Rows Trnsmode) && (h (Groups Timezone) && (h (Rows Stations) && (h (Groups Footnote) && (h Timetbls && s)))))
     (last-three (h (Groups Xchanges)) (h (Groups Xfootnote)))))
+
+-- TIMETBLS has rows where there is room for one and its first word is not 0
+module _ (t : List ℕ) where
+  pub no-room : length t < 7 → false ≡ ltb 0 (length (rowsIn Timetbls t))
+  no-room h = sym (le-ltb 0 _ (room-ends t 0 (omega arith) (omega arith)))
+
+  pub by-first-word : 7 ≤ length t → ltb 0 (getD t 0 0) ≡ ltb 0 (length (rowsIn Timetbls t))
+  by-first-word h = go (ltb 0 (getD t 0 0)) refl
+    where
+      go : (b : Bool) → ltb 0 (getD t 0 0) ≡ b → ltb 0 (getD t 0 0) ≡ ltb 0 (length (rowsIn Timetbls t))
+      go true e =
+          let some = ltb-true 0 (getD t 0 0) e in
+          e ∙ sym (lt-ltb 0 _ (row-used t 0 (omega arith) (omega arith) (getD t 0 0) (tag-first Timetbls t) (λ z. omega (arith, some))))
+      go false e =
+          let none = ltb-false 0 (getD t 0 0) e in
+          e ∙ sym (le-ltb 0 _ (rows-end t 0 (omega arith) (omega arith) (getD t 0 0) (tag-first Timetbls t) (omega (arith, none))))
 
 -- DELIVERY has its first line alone
 pub one-row : (c : Context) (rs : List Row) → ltb (length rs) 2 ≡ behind c Delivery rs
@@ -146,11 +163,41 @@ unfolding all
 all-same p q [] e = refl
 all-same p q (f ∷ fs) e = rw (e f, all-same p q fs e)
 
+-- one of the files asked for before the others
+over : (a x s r : Bool) → r ≡ (x && s) → (a && r) ≡ (x && (a && s))
+over true x s r e = e
+over false x s r e = sym (and-false x)
+
+apart : (p : File → Bool) → all p inOrder ≡ (p Timetbls && all (butTimetbls p) inOrder)
+unfolding all
+apart p =
+    let x = p Timetbls in
+    over (p Delivery) x _ _
+    (over (p (Rows Company)) x _ _
+    (over (p (Rows Country)) x _ _
+    (over (p (Rows Trnsmode)) x _ _
+    (over (p (Groups Timezone)) x _ _ (over (p (Rows Stations)) x _ _ (over (p (Groups Footnote)) x _ _ refl))))))
+
+both-apart : (p q : File → Bool)
+    → all (λ f. p f && q f) inOrder ≡ ((p Timetbls && q Timetbls) && (all (butTimetbls p) inOrder && all (butTimetbls q) inOrder))
+both-apart p q =
+    apart (λ f. p f && q f)
+    ∙ ap (λ b. (p Timetbls && q Timetbls) && b)
+    (all-same (butTimetbls (λ f. p f && q f)) (λ f. butTimetbls p f && butTimetbls q f) inOrder but-both
+    ∙ all-both (butTimetbls p) (butTimetbls q) inOrder)
+  where
+    but-both : (f : File) → butTimetbls (λ g. p g && q g) f ≡ (butTimetbls p f && butTimetbls q f)
+    but-both Delivery = refl
+    but-both (Rows f) = refl
+    but-both (Groups f) = refl
+    but-both Timetbls = refl
+
 -- all of them, and DELIVERY's company
 pub whole : (T : PerFile (List ℕ))
     → sound T
     ≡ ((allThere (rowsOfTables T)
-    && (allFramed (contextOf (rowsOfTables T) .form) (firstOf (rowsIn Delivery (T .delivery))) T && allBehind (contextOf (rowsOfTables T)) T))
+    && (timetblsSound (contextOf (rowsOfTables T)) (contextOf (rowsOfTables T) .form) (firstOf (rowsIn Delivery (T .delivery))) (T .timetbls)
+    && (allFramed (contextOf (rowsOfTables T) .form) (firstOf (rowsIn Delivery (T .delivery))) T && allBehind (contextOf (rowsOfTables T)) T)))
     && names (contextOf (rowsOfTables T)) (Rows Company) (ownCompany (firstOf (rowsIn Delivery (T .delivery)))))
 unfolding sound allThere allFramed allBehind
 whole T =
@@ -160,24 +207,24 @@ whole T =
     (all-same _ _ inOrder (λ f. table-parted c R f (of T f) (of-rows T f))
     ∙ all-both (there R) (λ f. framed (c .form) (firstOf (R .delivery)) f (of T f) && behind c f (rowsIn f (of T f))) inOrder
     ∙ ap (λ b. all (there R) inOrder && b)
-    (all-both (λ f. framed (c .form) (firstOf (R .delivery)) f (of T f)) (λ f. behind c f (rowsIn f (of T f))) inOrder))
+    (both-apart (λ f. framed (c .form) (firstOf (R .delivery)) f (of T f)) (λ f. behind c f (rowsIn f (of T f)))))
 
 -- WHAT ROWS NAME is looked up among the rows counted
 pub station-keys : (T : PerFile (List ℕ)) → StationKeys (contextOf (rowsOfTables T)) (T .country) (T .timezone)
 unfolding contextOf
 station-keys T = record { countries = refl; zones = refl }
 
-pub group-keys : (T : PerFile (List ℕ)) (u : UsedRows) → Counted T u
+pub group-keys : (T : PerFile (List ℕ)) (u : UsedRows) → Counted T u → (services : ℕ) → services ≡ length (rowsIn Timetbls (T .timetbls))
     → GroupKeysAmong (contextOf (rowsOfTables T))
-    (record { companies = u .company; modes = u .trnsmode; stations = u .stations; services = u .timetbls; xfootnotes = u .xfootnote })
+    (record { companies = u .company; modes = u .trnsmode; stations = u .stations; services = services; xfootnotes = u .xfootnote })
     (T .company) (T .trnsmode) (T .stations) (T .timetbls) (T .xfootnote)
 unfolding contextOf
-group-keys T u k =
+group-keys T u k services m =
     record {
       companies = sym (keys-counted (Rows Company) (T .company) (u .company) (k .company));
       modes = sym (keys-counted (Rows Trnsmode) (T .trnsmode) (u .trnsmode) (k .trnsmode));
       stations = sym (keys-counted (Rows Stations) (T .stations) (u .stations) (k .stations));
-      services = sym (keys-counted Timetbls (T .timetbls) (u .timetbls) (k .timetbls));
+      services = sym (keys-counted Timetbls (T .timetbls) services m);
       xfootnotes = sym (keys-counted (Groups Xfootnote) (T .xfootnote) (u .xfootnote) (k .xfootnote));
     }
 
@@ -208,6 +255,12 @@ module _ (T : PerFile (List ℕ)) where
   unfolding allThere all
   delivery-held e = ltb-true 0 (length (rowsIn Delivery (T .delivery))) (and-left _ _ e)
 
+  -- so has TIMETBLS
+  pub timetbls-held : allThere (rowsOfTables T) ≡ true → 0 < length (rowsIn Timetbls (T .timetbls))
+  unfolding allThere
+  timetbls-held e =
+      ltb-true 0 (length (rowsIn Timetbls (T .timetbls))) (and-left _ _ (sym (apart (there (rowsOfTables T))) ∙ e))
+
   module _ (first : Row) (d : first ≡ firstOf (rowsIn Delivery (T .delivery))) where
     module _ (form : Form) (g : form ≡ formOf first) (t : allThere (rowsOfTables T) ≡ true) where
       same-form : contextOf (rowsOfTables T) .form ≡ form
@@ -218,20 +271,24 @@ module _ (T : PerFile (List ℕ)) where
       form-is = sym same-form
 
       whole-by : sound T
-          ≡ ((allThere (rowsOfTables T) && (allFramed form first T && allBehind (contextOf (rowsOfTables T)) T))
+          ≡ ((allThere (rowsOfTables T)
+          && (timetblsSound (contextOf (rowsOfTables T)) form first (T .timetbls) && (allFramed form first T && allBehind (contextOf (rowsOfTables T)) T)))
           && names (contextOf (rowsOfTables T)) (Rows Company) (ownCompany first))
       whole-by = whole T ∙ rw (same-form, ← d)
 
       pub not-framed : allFramed form first T ≡ false → false ≡ sound T
-      not-framed e = sym (whole-by ∙ rw (t, e))
+      not-framed e = sym (whole-by ∙ rw (t, e, and-false))
 
-      pub not-behind : allFramed form first T ≡ true → allBehind (contextOf (rowsOfTables T)) T ≡ false → false ≡ sound T
-      not-behind e f = sym (whole-by ∙ rw (t, e, f))
+      pub not-timetbls : timetblsSound (contextOf (rowsOfTables T)) form first (T .timetbls) ≡ false → false ≡ sound T
+      not-timetbls m = sym (whole-by ∙ rw (t, m))
 
-      pub by-company : allFramed form first T ≡ true → allBehind (contextOf (rowsOfTables T)) T ≡ true
-          → has (ownCompany first) (keysIn (Rows Company) (T .company)) ≡ sound T
+      pub not-behind : allBehind (contextOf (rowsOfTables T)) T ≡ false → false ≡ sound T
+      not-behind f = sym (whole-by ∙ rw (t, f, and-false, and-false))
+
+      pub by-company : allFramed form first T ≡ true → timetblsSound (contextOf (rowsOfTables T)) form first (T .timetbls) ≡ true
+          → allBehind (contextOf (rowsOfTables T)) T ≡ true → has (ownCompany first) (keysIn (Rows Company) (T .company)) ≡ sound T
       unfolding contextOf
-      by-company e f = sym (whole-by ∙ rw (t, e, f))
+      by-company e m f = sym (whole-by ∙ rw (t, m, e, f))
 
 -- a form by its first line
 pub form-span : (r : Row) (days : ℕ) → days ≡ span (firstDay r) (lastDay r) → form424 days ≡ formOf r

@@ -1,8 +1,8 @@
--- The rows in use of eleven tables, counted; and soundness as it is asked: which tables are there, their frames, their rows behind the first lines'.
+-- The rows in use of ten tables, counted; and soundness as it is asked: which tables are there, their frames, their rows behind the first lines'.
 use Prim.Native.Nat.{ℕ}
 use mathlib.Core.Path.{_≡_}
 use mathlib.Core.List.{List}
-use mathlib.Core.Bool.{Bool, true, cond}
+use mathlib.Core.Bool.{Bool, true, _&&_, cond}
 use lib.ListN.{length}
 use Rattle.iff.specs.Lists.{all}
 use Rattle.iff.specs.Files.{PerFile, of, inOrder, needed}
@@ -18,7 +18,7 @@ use Rattle.sound_frames.specs.Frames.{framed}
 use Rattle.sound_behind.specs.Behind.{behind}
 use Rattle.sound.specs.declared.UsedRows.{UsedRows}
 
--- each count is that of its table
+-- each count is that of its table; TIMETBLS is not counted
 pub record Counted (T : PerFile (List ℕ)) (u : UsedRows) : Type 0 where
   pub delivery : u .delivery ≡ length (rowsIn Delivery (T .delivery))
   pub company : u .company ≡ length (rowsIn (Rows Company) (T .company))
@@ -27,7 +27,6 @@ pub record Counted (T : PerFile (List ℕ)) (u : UsedRows) : Type 0 where
   pub timezone : u .timezone ≡ length (rowsIn (Groups Timezone) (T .timezone))
   pub stations : u .stations ≡ length (rowsIn (Rows Stations) (T .stations))
   pub footnote : u .footnote ≡ length (rowsIn (Groups Footnote) (T .footnote))
-  pub timetbls : u .timetbls ≡ length (rowsIn Timetbls (T .timetbls))
   pub changes : u .changes ≡ length (rowsIn (Groups Changes) (T .changes))
   pub xfootnote : u .xfootnote ≡ length (rowsIn (Groups Xfootnote) (T .xfootnote))
   pub xchanges : u .xchanges ≡ length (rowsIn (Groups Xchanges) (T .xchanges))
@@ -39,8 +38,18 @@ there R f = cond (needed (heldIn R) f) (heldIn R f) true
 unfoldable pub allThere : PerFile (List Row) → Bool
 allThere R = all (there R) inOrder
 
+-- TIMETBLS is asked for as a whole, and the others in two parts
+abbrev pub butTimetbls : (File → Bool) → File → Bool
+butTimetbls p Delivery = p Delivery
+butTimetbls p (Rows f) = p (Rows f)
+butTimetbls p (Groups f) = p (Groups f)
+butTimetbls p Timetbls = true
+
 unfoldable pub allFramed : Form → Row → PerFile (List ℕ) → Bool
-allFramed form delivery T = all (λ f. framed form delivery f (of T f)) inOrder
+allFramed form delivery T = all (butTimetbls (λ f. framed form delivery f (of T f))) inOrder
 
 unfoldable pub allBehind : Context → PerFile (List ℕ) → Bool
-allBehind c T = all (λ f. behind c f (rowsIn f (of T f))) inOrder
+allBehind c T = all (butTimetbls (λ f. behind c f (rowsIn f (of T f)))) inOrder
+
+abbrev pub timetblsSound : Context → Form → Row → List ℕ → Bool
+timetblsSound c form delivery t = framed form delivery Timetbls t && behind c Timetbls (rowsIn Timetbls t)

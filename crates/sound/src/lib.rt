@@ -14,7 +14,7 @@ ghost use Prim.Native.Nat.{ℕ, _≤_};
 ghost use lib.ListN.{length};
 ghost use Rattle.iff.specs.Files.{PerFile, eleven};
 ghost use Rattle.iff.specs.Tables.{rowsIn};
-ghost use Rattle.iff.specs.declared.File.the-variants.{Delivery};
+ghost use Rattle.iff.specs.declared.File.the-variants.{Delivery, Timetbls};
 ghost use Rattle.iff_rules.specs.Rows.{contextOf, firstOf, formOf};
 ghost use Rattle.iff_desk.specs.Sound.{sound as areSound, rowsOfTables};
 ghost use Rattle.sound.specs.Whole.{Counted, allThere, allFramed, allBehind};
@@ -22,7 +22,7 @@ ghost use Rattle.sound.specs.Whole.{Counted, allThere, allFramed, allBeh
 // The slots of the index: a prime number of places to begin at, and those that are tried behind them. Half a megabyte serves some hundred thousand keys.
 pub const SLOTS: usize = 131135;
 
-// How many rows of each table are in use.
+// How many rows of each table are in use. Those of TIMETBLS are most of a delivery's, and are counted where they are tested.
 pub struct UsedRows {
     pub delivery: usize,
     pub company: usize,
@@ -31,7 +31,6 @@ pub struct UsedRows {
     pub timezone: usize,
     pub stations: usize,
     pub footnote: usize,
-    pub timetbls: usize,
     pub changes: usize,
     pub xfootnote: usize,
     pub xchanges: usize,
@@ -46,14 +45,13 @@ pub fn count_rows(
     timezone: &[u64],
     stations: &[u64],
     footnote: &[u64],
-    timetbls: &[u64],
     changes: &[u64],
     xfootnote: &[u64],
     xchanges: &[u64],
 ) -> UsedRows
-    ensures { λ r. ⌜ Counted (eleven (now (delivery .entry)) (now (company .entry)) (now (country .entry)) (now (trnsmode .entry))
-        (now (timezone .entry)) (now (stations .entry)) (now (footnote .entry)) (now (timetbls .entry)) (now (changes .entry))
-        (now (xfootnote .entry)) (now (xchanges .entry))) r ⌝ }
+    ensures { λ r. ⌜ ((t : List ℕ) → Counted (eleven (now (delivery .entry)) (now (company .entry)) (now (country .entry)) (now (trnsmode .entry))
+        (now (timezone .entry)) (now (stations .entry)) (now (footnote .entry)) t (now (changes .entry))
+        (now (xfootnote .entry)) (now (xchanges .entry))) r) ⌝ }
 {
     UsedRows {
         delivery: keys::used_rows(File::Delivery, delivery),
@@ -63,11 +61,20 @@ pub fn count_rows(
         timezone: keys::used_rows(File::Groups(GroupFile::Timezone), timezone),
         stations: keys::used_rows(File::Rows(RowFile::Stations), stations),
         footnote: keys::used_rows(File::Groups(GroupFile::Footnote), footnote),
-        timetbls: keys::used_rows(File::Timetbls, timetbls),
         changes: keys::used_rows(File::Groups(GroupFile::Changes), changes),
         xfootnote: keys::used_rows(File::Groups(GroupFile::Xfootnote), xfootnote),
         xchanges: keys::used_rows(File::Groups(GroupFile::Xchanges), xchanges),
     }
+}
+
+// TIMETBLS has rows: its first word tells.
+fn has_blocks(t: &[u64]) -> bool
+    ensures { λ r. ⌜ r ≡ ltb 0 (length (rowsIn Timetbls (now (t .entry)))) ⌝ }
+{
+    if t.len() < tables::BLOCK_WIDTH {
+        return false;
+    }
+    0 < t[words::TAG]
 }
 
 // Three tables with rows in use.
@@ -84,8 +91,9 @@ fn three(a: usize, b: usize, c: usize) -> bool
 }
 
 // The files that are needed are there: all but the last three, and XFOOTNOTE where XCHANGES is.
-fn are_there(used: UsedRows) -> bool
-    ensures { λ r. ⌜ ((T : PerFile (List ℕ)) → Counted T used → r ≡ allThere (rowsOfTables T)) ⌝ }
+fn are_there(used: UsedRows, timetbls: bool) -> bool
+    ensures { λ r. ⌜ ((T : PerFile (List ℕ)) → Counted T used → timetbls ≡ ltb 0 (length (rowsIn Timetbls (T .timetbls)))
+        → r ≡ allThere (rowsOfTables T)) ⌝ }
 {
     if !three(used.delivery, used.company, used.country) {
         return false;
@@ -96,7 +104,7 @@ fn are_there(used: UsedRows) -> bool
     if used.footnote == 0 {
         return false;
     }
-    if used.timetbls == 0 {
+    if !timetbls {
         return false;
     }
     if used.xchanges == 0 {
@@ -105,7 +113,7 @@ fn are_there(used: UsedRows) -> bool
     0 < used.xfootnote
 }
 
-// The frames of all tables, in the files' order. The keys of each go into the index.
+// The frames of all tables but TIMETBLS, in the files' order. The keys of each go into the index.
 fn are_framed(
     delivery: &[u64],
     company: &[u64],
@@ -192,17 +200,8 @@ fn are_framed(
         form,
         places,
     );
-    let with_timetbls = sound_frames::is_framed(
-        with_footnote,
-        File::Timetbls,
-        timetbls,
-        used.timetbls,
-        first,
-        form,
-        places,
-    );
     let with_changes = sound_frames::is_framed(
-        with_timetbls,
+        with_footnote,
         File::Groups(GroupFile::Changes),
         changes,
         used.changes,
@@ -231,7 +230,7 @@ fn are_framed(
     with_xchanges
 }
 
-// The rows behind the first lines' of all tables, in the files' order. DELIVERY has none.
+// The rows behind the first lines' of all tables but TIMETBLS, in the files' order. DELIVERY has none. `services` is the number of TIMETBLS' rows.
 fn are_right_behind(
     delivery: &[u64],
     company: &[u64],
@@ -245,10 +244,12 @@ fn are_right_behind(
     xfootnote: &[u64],
     xchanges: &[u64],
     used: UsedRows,
+    services: usize,
     form: Form,
     places: &[u32],
 ) -> bool
-    requires { ⌜ Counted (eleven (now delivery) (now company) (now country) (now trnsmode) (now timezone) (now stations) (now footnote) (now timetbls) (now changes) (now xfootnote) (now xchanges)) used ⌝ }
+    requires { ⌜ Counted (eleven (now delivery) (now company) (now country) (now trnsmode) (now timezone) (now stations) (now footnote) (now timetbls) (now changes) (now xfootnote) (now xchanges)) used
+        × (services ≡ length (rowsIn Timetbls (now timetbls))) ⌝ }
     ensures { λ r. ⌜ (form ≡ contextOf (rowsOfTables (eleven (now (delivery .entry)) (now (company .entry)) (now (country .entry)) (now (trnsmode .entry))
         (now (timezone .entry)) (now (stations .entry)) (now (footnote .entry)) (now (timetbls .entry)) (now (changes .entry))
         (now (xfootnote .entry)) (now (xchanges .entry)))) .form
@@ -258,17 +259,11 @@ fn are_right_behind(
         (now (timezone .entry)) (now (stations .entry)) (now (footnote .entry)) (now (timetbls .entry)) (now (changes .entry))
         (now (xfootnote .entry)) (now (xchanges .entry)))) ⌝ }
 {
-    let blocks = references::BlockCounts {
-        companies: used.company,
-        modes: used.trnsmode,
-        stations: used.stations,
-        footnotes: used.footnote,
-    };
     let groups = references::GroupCounts {
         companies: used.company,
         modes: used.trnsmode,
         stations: used.stations,
-        services: used.timetbls,
+        services: services,
         xfootnotes: used.xfootnote,
     };
     let with_delivery = used.delivery < 2;
@@ -336,19 +331,8 @@ fn are_right_behind(
         places,
         xfootnote,
     );
-    let with_timetbls = sound_behind::are_blocks_right(
-        with_footnote,
-        timetbls,
-        used.timetbls,
-        blocks,
-        company,
-        trnsmode,
-        stations,
-        footnote,
-        places,
-    );
     let with_changes = sound_behind::are_groups_right(
-        with_timetbls,
+        with_footnote,
         GroupFile::Changes,
         changes,
         used.changes,
@@ -404,7 +388,8 @@ pub fn form_of(first: &[u64]) -> Form
     }
 }
 
-// The tables that are needed are there: the frames, the rows, and DELIVERY's own company.
+// The tables that are needed are there: the frames, TIMETBLS as a whole, the rows of the others, and DELIVERY's own company. CHANGES, whose rows name
+// services, comes after TIMETBLS, whose services are in the index then.
 fn are_all_sound(
     delivery: &[u64],
     company: &[u64],
@@ -448,6 +433,25 @@ fn are_all_sound(
     ) {
         return false;
     }
+    let blocks = references::BlockCounts {
+        companies: used.company,
+        modes: used.trnsmode,
+        stations: used.stations,
+        footnotes: used.footnote,
+    };
+    let sound_behind::Judged::Right(services) = sound_behind::judge_blocks(
+        timetbls,
+        first,
+        form,
+        blocks,
+        company,
+        trnsmode,
+        stations,
+        footnote,
+        places,
+    ) else {
+        return false;
+    };
     if !are_right_behind(
         delivery,
         company,
@@ -461,6 +465,7 @@ fn are_all_sound(
         xfootnote,
         xchanges,
         used,
+        services,
         form,
         places,
     ) {
@@ -502,12 +507,11 @@ pub fn is_sound_by(
         timezone,
         stations,
         footnote,
-        timetbls,
         changes,
         xfootnote,
         xchanges,
     );
-    if !are_there(used) {
+    if !are_there(used, has_blocks(timetbls)) {
         return false;
     }
     let first = &delivery[0..6];

@@ -1,15 +1,26 @@
-// The rows behind first lines', file by file: each function hands a refusal on, and a table without rows has nothing to be tested.
+// The rows behind first lines', file by file: each function hands a refusal on, and a table without rows has nothing to be tested. TIMETBLS, whose rows
+// are most of a delivery's, is gone through once, for its frame too.
+use iff::File;
 use iff::Form;
 use iff::GroupFile;
 use iff::RowFile;
+use iff::tags;
+use iff::words;
 ghost use mathlib.Core.Path.{_≡_};
 ghost use mathlib.Core.Bool.{_&&_};
+ghost use Prim.Native.Nat.{_≤_, _<_};
 ghost use lib.ListN.{length};
 ghost use Rattle.iff.specs.Tables.{rowsIn};
 ghost use Rattle.iff.specs.declared.File.the-variants.{Rows, Groups, Timetbls};
 ghost use Rattle.iff_rules.specs.Rows.{Context};
-ghost use Rattle.references.specs.Agree.{StationKeys, GroupKeysAmong, BlockKeysAmong};
-ghost use Rattle.sound_behind.specs.Behind.{behind};
+ghost use Rattle.references.specs.Agree.{StationKeys, GroupKeysAmong};
+ghost use Rattle.sound_behind.specs.Behind.{behind, BlocksJudged};
+
+// What is told of TIMETBLS: that it is right, and how many of its rows are in use.
+pub enum Judged {
+    Right(usize),
+    Wrong,
+}
 
 // A file of rows.
 pub fn are_rows_right(
@@ -76,37 +87,41 @@ pub fn are_groups_right(
     )
 }
 
-// TIMETBLS.
-pub fn are_blocks_right(
-    so_far: bool,
+// TIMETBLS, its frame with it: its rows are counted and what is told of its services is told where its blocks are tested.
+pub fn judge_blocks(
     t: &[u64],
-    used: usize,
+    delivery: &[u64],
+    form: Form,
     counts: references::BlockCounts,
     companies: &[u64],
     modes: &[u64],
     stations: &[u64],
     footnotes: &[u64],
-    places: &[u32],
-) -> bool
-    requires { ⌜ used ≡ length (rowsIn Timetbls (now t)) ⌝ }
-    ensures { λ r. ⌜ ((c : Context)
-        → BlockKeysAmong c counts (now (companies .entry)) (now (modes .entry)) (now (stations .entry)) (now (footnotes .entry))
-        → r ≡ («so_far» && behind c Timetbls (rowsIn Timetbls (now (t .entry))))) ⌝ }
+    places: &mut [u32],
+) -> Judged
+    requires { ⌜ (0 < length (rowsIn Timetbls (now t))) × (5 ≤ length (now delivery)) ⌝ }
+    ensures { λ r. ⌜ BlocksJudged counts (now (companies .entry)) (now (modes .entry)) (now (stations .entry)) (now (footnotes .entry))
+        form (now (delivery .entry)) (now (t .entry)) r ⌝ }
 {
-    if !so_far {
-        return false;
+    if tables::word_or_zero(t, words::TAG) != tags::AT {
+        return Judged::Wrong;
     }
-    if used == 0 {
-        return true;
-    }
-    sound_blocks::are_blocks_sound(
+    let sound_blocks::BlocksAre::Sound(used, rise) = sound_blocks::are_blocks_sound(
         t,
-        used,
         counts,
         companies,
         modes,
         stations,
         footnotes,
         places,
-    )
+    ) else {
+        return Judged::Wrong;
+    };
+    if !tables::zero_from(t, used * tables::BLOCK_WIDTH) {
+        return Judged::Wrong;
+    }
+    if !sound_frames::are_rows_framed_by(File::Timetbls, t, used, delivery, form, rise) {
+        return Judged::Wrong;
+    }
+    Judged::Right(used)
 }

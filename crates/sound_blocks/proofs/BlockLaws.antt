@@ -4,10 +4,10 @@ use mathlib.Core.Path.{_≡_, refl, ap, sym, _∙_}
 use mathlib.Core.List.{List, [], _∷_}
 use mathlib.Core.Bool.{Bool, true, false, _&&_}
 use native.Mathlib.Omega.{arith}
-use borrow.Author.Tests.{eq-eqb, ne-eqb}
-use lib.Dec.{eqb}
+use borrow.Author.Tests.{eq-eqb, ne-eqb, ltb-true, ltb-false}
+use lib.Dec.{eqb, ltb}
 use lib.ListN.{length, getD}
-use Rattle.iff.specs.Lists.{Group, groups, all, allOf}
+use Rattle.iff.specs.Lists.{Group, front, groups, all, allOf}
 use Rattle.iff.specs.Tables.{Row, isHashRow, rowAt, rowWidth}
 use Rattle.iff.specs.Words.{lineCount, stopCount}
 use Rattle.iff.specs.declared.File.the-variants.{Timetbls}
@@ -139,64 +139,76 @@ module _ (counts : BlockCounts) (co mo st fo t : List ℕ) (from used : ℕ) (at
 pub record Left (counts : BlockCounts) (co mo st fo t : List ℕ) (used i : ℕ) : Type 0 where
   pub low : 1 ≤ i
   pub high : i ≤ used
-  pub head : i < used → isHashRow (rowAt (rowWidth Timetbls) t i) ≡ true
   pub says :
-      (c : Context) → BlockKeysAmong c counts co mo st fo
-      → soundTimetbls c (rowsOf t 1 used) ≡ all (soundBlock c) (groups isHashRow (rowsOf t i used))
+      (c : Context) → BlockKeysAmong c counts co mo st fo → soundTimetbls c (rowsOf t 1 used) ≡ soundTimetbls c (rowsOf t i used)
+
+-- rows that begin with something else than a `#`, and those that begin with one
+stray-row : (c : Context) (r : Row) (rs : List Row) → isHashRow r ≡ false → soundTimetbls c (r ∷ rs) ≡ false
+unfolding soundTimetbls front
+stray-row c r rs e = rw e
+
+head-row : (c : Context) (r : Row) (rs : List Row) → isHashRow r ≡ true → soundTimetbls c (r ∷ rs) ≡ all (soundBlock c) (groups isHashRow (r ∷ rs))
+unfolding soundTimetbls front
+head-row c r rs e = rw e
+
+-- the rows behind a block begin with a `#`, where there are any
+behind-block : (c : Context) (t : List ℕ) (from used end : ℕ) → NextHead (rowWidth Timetbls) t from used end
+    → soundTimetbls c (rowsOf t end used) ≡ all (soundBlock c) (groups isHashRow (rowsOf t end used))
+unfolding soundTimetbls front
+behind-block c t from used end n = go (ltb end used) refl
+  where
+    go : (b : Bool) → ltb end used ≡ b → soundTimetbls c (rowsOf t end used) ≡ all (soundBlock c) (groups isHashRow (rowsOf t end used))
+    go true q =
+        let h : end < used = ltb-true end used q in
+        rw (between-first (rowWidth Timetbls) t end used h)
+        (head-row c (rowAt (rowWidth Timetbls) t end) (rowsOf t (suc end) used) (n .head h))
+    go false q = rw (between-none (rowWidth Timetbls) t end used (ltb-false end used q))
 
 module _ (counts : BlockCounts) (co mo st fo t : List ℕ) (used : ℕ) where
-  abbrev AllSays : Bool → Type 0
+  abbrev pub AllSays : Bool → Type 0
   AllSays b = (c : Context) → BlockKeysAmong c counts co mo st fo → b ≡ soundTimetbls c (rowsOf t 1 used)
 
-  module _ (first : ℕ) (n : NextHead (rowWidth Timetbls) t 1 used first) where
-    -- a row stands before the first `#`
-    pub stray : (first ≡ 1 → ⊥) → AllSays false
-    unfolding soundTimetbls
-    stray e c g =
-        let f = between-first (rowWidth Timetbls) t 1 first (omega (arith, n .low, e)) in
-        rw (n .until, f)
-
-    pub starts : first ≡ 1 → Left counts co mo st fo t used 1
-    unfolding soundTimetbls
-    starts e =
-        let h = n .high in
-        let none : rowsOf t 1 first ≡ [] = between-none (rowWidth Timetbls) t 1 first (omega arith) in
-        record {
-          low = omega arith;
-          high = omega arith;
-          head = λ l. ap (λ (k : ℕ). isHashRow (rowAt (rowWidth Timetbls) t k)) (sym e) ∙ n .head (omega arith);
-          says = λ c g. rw (n .until, none);
-        }
+  pub starts : 1 ≤ used → Left counts co mo st fo t used 1
+  starts h = record { low = omega arith; high = h; says = λ c g. refl }
 
   module _ (i : ℕ) (p : Left counts co mo st fo t used i) where
     pub ends : used ≤ i → AllSays true
-    unfolding all groups
+    unfolding soundTimetbls front all groups
     ends h c g =
         let none = between-none (rowWidth Timetbls) t i used h in
         sym (p .says c g ∙ rw none)
 
-    -- the block that begins in row i
-    module _ (l : i < used) (b : Tested) (told : BlockTold counts co mo st fo t i used b) where
-      one-more : (c : Context) → all (soundBlock c) (groups isHashRow (rowsOf t i used))
-          ≡ (soundBlock c (groupOf t i (told .end)) && all (soundBlock c) (groups isHashRow (rowsOf t (told .end) used)))
-      unfolding all
-      one-more c = rw (group-at (rowWidth Timetbls) t i used (told .end) l (p .head l) (told .next))
+    module _ (l : i < used) where
+      -- a row that stands in no block
+      pub stray : isHashRow (rowAt (rowWidth Timetbls) t i) ≡ false → AllSays false
+      stray e c g =
+          sym (p .says c g
+          ∙ ap (soundTimetbls c) (between-first (rowWidth Timetbls) t i used l)
+          ∙ stray-row c (rowAt (rowWidth Timetbls) t i) (rowsOf t (suc i) used) e)
 
-      pub unsound-block : b ≡ tested.Unsound → AllSays false
-      unsound-block e c g = sym (p .says c g ∙ one-more c ∙ rw (sym (told .says c g) ∙ ap isSound e))
+      -- the block that begins in row i
+      module _ (head : isHashRow (rowAt (rowWidth Timetbls) t i) ≡ true) (b : Tested) (told : BlockTold counts co mo st fo t i used b) where
+        one-more : (c : Context)
+            → soundTimetbls c (rowsOf t i used) ≡ (soundBlock c (groupOf t i (told .end)) && soundTimetbls c (rowsOf t (told .end) used))
+        unfolding all
+        one-more c =
+            ap (soundTimetbls c) (between-first (rowWidth Timetbls) t i used l)
+            ∙ head-row c (rowAt (rowWidth Timetbls) t i) (rowsOf t (suc i) used) head
+            ∙ ap (λ (rs : List Row). all (soundBlock c) (groups isHashRow rs)) (sym (between-first (rowWidth Timetbls) t i used l))
+            ∙ ap (all (soundBlock c)) (group-at (rowWidth Timetbls) t i used (told .end) l head (told .next))
+            ∙ ap (λ (x : Bool). soundBlock c (groupOf t i (told .end)) && x) (sym (behind-block c t (suc i) used (told .end) (told .next)))
 
-      module _ (to : ℕ) (e : b ≡ tested.Sound to) where
-        pub goes-on : Left counts co mo st fo t used to
-        goes-on =
-            rw (told .ended to e) record {
-              low = omega (arith, told .next .low);
-              high = told .next .high;
-              head = told .next .head;
-              says = λ c g. p .says c g ∙ one-more c ∙ rw (sym (told .says c g) ∙ ap isSound e);
-            }
+        pub unsound-block : b ≡ tested.Unsound → AllSays false
+        unsound-block e c g = sym (p .says c g ∙ one-more c ∙ rw (sym (told .says c g) ∙ ap isSound e))
 
-        pub rises : i < to
-        rises = omega (arith, told .ended to e, told .next .low)
+        module _ (to : ℕ) (e : b ≡ tested.Sound to) where
+          pub goes-on : Left counts co mo st fo t used to
+          goes-on =
+              rw (told .ended to e) record {
+                low = omega (arith, told .next .low);
+                high = told .next .high;
+                says = λ c g. p .says c g ∙ one-more c ∙ rw (sym (told .says c g) ∙ ap isSound e);
+              }
 
-        pub stays : to ≤ used
-        stays = omega (arith, told .ended to e, told .next .high)
+          pub rises : i < to
+          rises = omega (arith, told .ended to e, told .next .low)

@@ -1,2 +1,4 @@
+pub mod UsedLaws
 pub mod WalkLaws
 pub mod BlockLaws
+pub mod ServiceLaws

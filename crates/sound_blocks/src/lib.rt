@@ -1,18 +1,14 @@
 // The rows of TIMETBLS after its first line, as "Soundness" of document 01 asks for them: block by block, each from its `#` to the next.
 ghost use mathlib.Core.Path.{_≡_};
-ghost use mathlib.Core.Bool.{_&&_};
+ghost use mathlib.Core.Bool.{false, _&&_};
 ghost use Prim.Native.Nat.{_+_, _*_, _≤_, _<_};
 ghost use lib.Dec.{ltb};
 ghost use lib.ListN.{length};
 ghost use Rattle.iff.specs.Tables.{rowAt, rowWidth, isHashRow};
 ghost use Rattle.iff.specs.declared.File.the-variants.{Timetbls};
 ghost use Rattle.iff_rules.specs.Meaning.{mostStops};
-ghost use Rattle.iff_rules.specs.Rows.{Context};
-ghost use Rattle.iff_desk.specs.Sound.{soundTimetbls};
-ghost use Rattle.keys.specs.Blocks.{rowsBetween};
-ghost use Rattle.references.specs.Agree.{BlockKeysAmong};
 ghost use Rattle.sound_block_rows.specs.Told.{RowTold};
-ghost use Rattle.sound_blocks.specs.Walk.{BlockAt, BlockWalked, BlockTold};
+ghost use Rattle.sound_blocks.specs.Walk.{usedIn, BlockAt, BlockWalked, BlockTold, BlocksTold};
 
 // Where the rows of a block lead, each of them sound, and the row behind them; or that one is not.
 pub enum Walked {
@@ -23,6 +19,12 @@ pub enum Walked {
 // The row behind a sound block.
 pub enum Tested {
     Sound(usize),
+    Unsound,
+}
+
+// All blocks are sound and no service comes twice: the number of rows in use, the first line's among them, and whether the services rise.
+pub enum BlocksAre {
+    Sound(usize, bool),
     Unsound,
 }
 
@@ -69,11 +71,10 @@ fn after_at(
     )
 }
 
-// The rows of a block one after the other, up to the next `#`.
+// The rows of a block one after the other, up to the next `#` or the end of the rows in use.
 fn walk_rows(
     t: &[u64],
     from: usize,
-    used: usize,
     counts: references::BlockCounts,
     companies: &[u64],
     modes: &[u64],
@@ -81,16 +82,20 @@ fn walk_rows(
     footnotes: &[u64],
     places: &[u32],
 ) -> Walked
-    requires { ⌜ BlockAt (now t) from used ⌝ }
+    requires { ⌜ BlockAt (now t) from (usedIn (now t)) ⌝ }
     ensures { λ r. ⌜ BlockWalked counts (now (companies .entry)) (now (modes .entry)) (now (stations .entry)) (now (footnotes .entry))
-        (now (t .entry)) from used r ⌝ }
+        (now (t .entry)) from (usedIn (now (t .entry))) r ⌝ }
 {
+    let room = t.len() / tables::BLOCK_WIDTH;
     let mut block = iff::InBlock {
         stand: iff::Stand::Start,
         stops: 0,
     };
     let mut i = from;
-    while i < used {
+    while i < room {
+        if tables::word_at(t, tables::BLOCK_WIDTH, i, iff::words::TAG) == 0 {
+            return Walked::Through(block, i);
+        }
         if is_next_head(t, from, i) {
             return Walked::Through(block, i);
         }
@@ -119,7 +124,6 @@ fn walk_rows(
 fn test_block(
     t: &[u64],
     from: usize,
-    used: usize,
     counts: references::BlockCounts,
     companies: &[u64],
     modes: &[u64],
@@ -127,14 +131,13 @@ fn test_block(
     footnotes: &[u64],
     places: &[u32],
 ) -> Tested
-    requires { ⌜ BlockAt (now t) from used ⌝ }
+    requires { ⌜ BlockAt (now t) from (usedIn (now t)) ⌝ }
     ensures { λ r. ⌜ BlockTold counts (now (companies .entry)) (now (modes .entry)) (now (stations .entry)) (now (footnotes .entry))
-        (now (t .entry)) from used r ⌝ }
+        (now (t .entry)) from (usedIn (now (t .entry))) r ⌝ }
 {
     let Walked::Through(block, to) = walk_rows(
         t,
         from,
-        used,
         counts,
         companies,
         modes,
@@ -163,32 +166,35 @@ fn test_block(
     Tested::Sound(to)
 }
 
-// All blocks. No row stands before the first `#`. `used` is the number of rows in use, the first line's among them.
+// All blocks, each of which begins with a `#`, up to the end of the rows in use, which is found on the way. So is each block's service tested and put
+// into the index, while its row is at hand; the rows behind it up to the next `#` name nothing.
 pub fn are_blocks_sound(
     t: &[u64],
-    used: usize,
     counts: references::BlockCounts,
     companies: &[u64],
     modes: &[u64],
     stations: &[u64],
     footnotes: &[u64],
-    places: &[u32],
-) -> bool
-    requires { ⌜ (1 ≤ used) × (used * rowWidth Timetbls ≤ length (now t)) ⌝ }
-    ensures { λ r. ⌜ ((c : Context)
-        → BlockKeysAmong c counts (now (companies .entry)) (now (modes .entry)) (now (stations .entry)) (now (footnotes .entry))
-        → r ≡ soundTimetbls c (rowsBetween (rowWidth Timetbls) (now (t .entry)) 1 used)) ⌝ }
+    places: &mut [u32],
+) -> BlocksAre
+    requires { ⌜ (1 ≤ usedIn (now t)) × (isHashRow (rowAt (rowWidth Timetbls) (now t) 0) ≡ false) ⌝ }
+    ensures { λ r. ⌜ BlocksTold counts (now (companies .entry)) (now (modes .entry)) (now (stations .entry)) (now (footnotes .entry))
+        (now (t .entry)) (usedIn (now (t .entry))) r × (length (now (places .exit)) ≡ length (now (places .entry))) ⌝ }
 {
-    let first = walks::next_head(t, tables::BLOCK_WIDTH, 1, used);
-    if first != 1 {
-        return false;
-    }
+    let room = t.len() / tables::BLOCK_WIDTH;
+    let mut run = fresh_keys::no_keys();
     let mut i: usize = 1;
-    while i < used {
+    while i < room {
+        let tag = tables::word_at(t, tables::BLOCK_WIDTH, i, iff::words::TAG);
+        if tag == 0 {
+            return BlocksAre::Sound(i, run.rises);
+        }
+        if tag != iff::tags::HASH {
+            return BlocksAre::Unsound;
+        }
         let Tested::Sound(end) = test_block(
             t,
             i,
-            used,
             counts,
             companies,
             modes,
@@ -196,9 +202,14 @@ pub fn are_blocks_sound(
             footnotes,
             places,
         ) else {
-            return false;
+            return BlocksAre::Unsound;
         };
+        let index::Next::Goes(next) = index::index_row(iff::File::Timetbls, t, i, run, places)
+        else {
+            return BlocksAre::Unsound;
+        };
+        run = next;
         i = end;
     }
-    true
+    BlocksAre::Sound(i, run.rises)
 }

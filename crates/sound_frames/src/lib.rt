@@ -5,13 +5,36 @@ use iff::Form;
 use iff::tags;
 use iff::words;
 ghost use mathlib.Core.Path.{_≡_};
-ghost use mathlib.Core.Bool.{_&&_};
+ghost use mathlib.Core.Bool.{true, _&&_};
 ghost use Prim.Native.Nat.{_*_, _≤_, _<_};
 ghost use lib.ListN.{length};
-ghost use Rattle.iff.specs.Tables.{rowWidth, rowsIn};
+ghost use Rattle.iff.specs.Tables.{rowWidth, rowsIn, keysOf, rising};
+ghost use Rattle.iff_desk.specs.Sound.{distinct};
+ghost use Rattle.keys.specs.Blocks.{rowsBetween};
 ghost use Rattle.sound_frames.specs.Frames.{framedRows, framed};
 
-// A table with rows: the first line's, then the keys, then the length.
+// A table with rows of which it is told that no key comes twice, and whether keys rise: the first line's row, then the length.
+pub fn are_rows_framed_by(
+    file: File,
+    t: &[u64],
+    used: usize,
+    delivery: &[u64],
+    form: Form,
+    rise: bool,
+) -> bool
+    requires { ⌜ (0 < used) × (used ≡ length (rowsIn file (now t))) × (5 ≤ length (now delivery)) ⌝ }
+    ensures { λ r. ⌜ (distinct (keysOf file (rowsBetween (rowWidth file) (now (t .entry)) 1 used)) ≡ true
+        → rise ≡ rising (keysOf file (rowsBetween (rowWidth file) (now (t .entry)) 1 used))
+        → r ≡ framedRows form (now (delivery .entry)) file (rowsIn file (now (t .entry)))) ⌝ }
+{
+    let w = tables::row_width(file);
+    if !sound_firsts::is_first_sound(file, &t[0..w], delivery, rise) {
+        return false;
+    }
+    row_sizes::fits_limit(file, form, t, used)
+}
+
+// A table with rows: the first line's tag, then the keys, then the rest.
 fn are_rows_framed(
     file: File,
     t: &[u64],
@@ -30,11 +53,7 @@ fn are_rows_framed(
     if !keys.distinct {
         return false;
     }
-    let w = tables::row_width(file);
-    if !sound_firsts::is_first_sound(file, &t[0..w], delivery, keys.rise) {
-        return false;
-    }
-    row_sizes::fits_limit(file, form, t, used)
+    are_rows_framed_by(file, t, used, delivery, form, keys.rise)
 }
 
 // One table, where all before it were sound: `so_far` hands a refusal on.

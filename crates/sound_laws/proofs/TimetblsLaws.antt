@@ -33,7 +33,7 @@ use Rattle.records.proofs.FileLaws.{row-tag}
 use Rattle.legs.proofs.RowLaws.{tag-is, stops-same}
 use Rattle.block_rows.proofs.RowLaws.{rows-count, keys-nil, block-keys}
 use Rattle.keys.proofs.Fills.{keys-append}
-use Rattle.timetbls.proofs.GroupLaws.{groups-first, front-open}
+use Rattle.block_ends.proofs.GroupLaws.{groups-first, front-open}
 use Rattle.sound_laws.proofs.PassLaws.{scan-passes, scan-each, total-append, all-hold, each-all, each-front, each-group, each-entry, Opens, groups-open}
 use Rattle.sound_laws.proofs.BlockLaws.{block-size, block-seven, block-row, rows-stand, counts-are}
 use Rattle.sound_laws.proofs.PlainLaws.{InBytes, Laid}

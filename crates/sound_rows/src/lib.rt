@@ -4,6 +4,7 @@ use iff::Form;
 use iff::RowFile;
 use iff::tags;
 use iff::words;
+use references::StationCounts;
 ghost use mathlib.Core.Path.{_≡_};
 ghost use Prim.Native.Nat.{_+_, _-_, _*_, _≤_};
 ghost use lib.ListN.{length};
@@ -12,7 +13,7 @@ ghost use Rattle.iff.specs.declared.File.the-variants.{Rows};
 ghost use Rattle.iff_rules.specs.Rows.{Context};
 ghost use Rattle.iff_desk.specs.Sound.{soundPlainRow, soundPlain};
 ghost use Rattle.keys.specs.Blocks.{rowsBetween};
-ghost use Rattle.references.specs.Agree.{StationKeys};
+ghost use Rattle.references.specs.Agree.{StationKeys, StationKeysAmong};
 
 // One row, after `count` rows of its file.
 fn is_row_sound(
@@ -22,9 +23,11 @@ fn is_row_sound(
     form: Form,
     countries: &[u64],
     zones: &[u64],
+    counts: StationCounts,
+    places: &[u32],
 ) -> bool
     requires { ⌜ length (now row) ≡ rowWidth (Rows file) ⌝ }
-    ensures { λ r. ⌜ ((c : Context) → c .form ≡ form → StationKeys c (now (countries .entry)) (now (zones .entry))
+    ensures { λ r. ⌜ ((c : Context) → c .form ≡ form → StationKeysAmong c counts (now (countries .entry)) (now (zones .entry))
         → r ≡ soundPlainRow c file count (now (row .entry))) ⌝ }
 {
     let tag = row[words::TAG];
@@ -38,7 +41,7 @@ fn is_row_sound(
     if !meanings::row_means(file, count, row) {
         return false;
     }
-    references::met_by_row(file, row, countries, zones)
+    references::met_by_row(file, row, countries, zones, counts, places)
 }
 
 // Row `i` of a table, where the row of the first line is row 0.
@@ -50,14 +53,25 @@ fn is_sound_at(
     form: Form,
     countries: &[u64],
     zones: &[u64],
+    counts: StationCounts,
+    places: &[u32],
 ) -> bool
     requires { ⌜ (w ≡ rowWidth (Rows file)) × (1 ≤ i) × (i * w + w ≤ length (now t)) ⌝ }
-    ensures { λ r. ⌜ ((c : Context) → c .form ≡ form → StationKeys c (now (countries .entry)) (now (zones .entry))
+    ensures { λ r. ⌜ ((c : Context) → c .form ≡ form → StationKeysAmong c counts (now (countries .entry)) (now (zones .entry))
         → r ≡ soundPlainRow c file (i - 1) (rowAt w (now (t .entry)) i)) ⌝ }
 {
     let from = i * w;
     let to = from + w;
-    is_row_sound(file, i - 1, &t[from..to], form, countries, zones)
+    is_row_sound(
+        file,
+        i - 1,
+        &t[from..to],
+        form,
+        countries,
+        zones,
+        counts,
+        places,
+    )
 }
 
 // The rows behind that of the first line, up to row `used`.
@@ -74,9 +88,11 @@ pub fn are_rows_sound(
         → r ≡ soundPlain c file (rowsBetween (rowWidth (Rows file)) (now (t .entry)) 1 used)) ⌝ }
 {
     let w = tables::row_width(File::Rows(file));
+    let counts = references::count_for_stations(countries, zones);
+    let no_places = [0u32; 1];
     let mut i = 1;
     while i < used {
-        if !is_sound_at(file, t, w, i, form, countries, zones) {
+        if !is_sound_at(file, t, w, i, form, countries, zones, counts, &no_places) {
             return false;
         }
         i += 1;

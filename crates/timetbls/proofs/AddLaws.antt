@@ -29,7 +29,7 @@ use Rattle.tables.proofs.Filled.{joined-append, rows-in-fill, fill-front, fill-
 use Rattle.fresh_keys.specs.declared.KeyRun.{KeyRun}
 use Rattle.keys.specs.Lookup.{keysIn}
 use Rattle.fresh_keys.proofs.Runs.{run-next}
-use Rattle.service_marks.proofs.MarkLaws.{marked-next}
+use Rattle.marks.proofs.MarkLaws.{marked-next}
 use Rattle.keys.proofs.Fills.{keys-append}
 use Rattle.legs.proofs.RowLaws.{block-lines}
 use Rattle.blocks.specs.declared.Checked.{Checked}
@@ -44,7 +44,7 @@ use Rattle.quick_blocks.specs.Whole.{QuickPut}
 use Rattle.block_rows.proofs.RowLaws.{rows-used, rows-count, block-keys}
 use Rattle.timetbls.specs.declared.BlockPut.the-variants.{Kept, Faulty}
 use Rattle.timetbls.specs.Blocks.{StrayTold, BlockTested, BlockPlaced, Remembered, Addable, BlockAdded}
-use Rattle.timetbls.proofs.GroupLaws.{front-open, front-closed, front-nil}
+use Rattle.block_ends.proofs.GroupLaws.{front-open, front-closed, front-nil}
 
 -- A LINE BEFORE THE FIRST BLOCK
 module _ (t : List ℕ) (from : ℕ) where

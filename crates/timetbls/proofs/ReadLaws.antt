@@ -25,18 +25,19 @@ use Rattle.tables.proofs.Filled.{rows-in-fill}
 use Rattle.fresh_keys.specs.declared.KeyRun.{KeyRun}
 use Rattle.keys.specs.Lookup.{keysIn}
 use Rattle.fresh_keys.specs.Runs.{noKeys}
-use Rattle.service_marks.specs.Marks.{Marked}
+use Rattle.marks.specs.Marks.{Marked}
 use Rattle.references.specs.declared.BlockCounts.{BlockCounts}
 use Rattle.references.specs.Agree.{BlockKeys, BlockKeysAmong}
 use Rattle.fresh_keys.proofs.Runs.{run-rises}
-use Rattle.reading.specs.declared.RowsRead.{RowsRead}
-use Rattle.reading.specs.declared.RowsRead.the-variants.{AllRead, Stopped}
 use Rattle.reading.specs.Reading.{Begun, Split, RowsDone}
 use Rattle.block_rows.proofs.RowLaws.{rows-count, key-skips, keys-nil}
 use Rattle.timetbls.specs.declared.BlockPut.{BlockPut}
 use Rattle.timetbls.specs.declared.BlockPut.the-variants.{Kept, Faulty}
-use Rattle.timetbls.specs.Blocks.{part, Clean, NextBlock, StrayTold, Holding, Addable, BlockAdded, blocksVerdict}
-use Rattle.timetbls.specs.Blocks.{BlocksReady, BlocksAdded, AfterFirst, BlocksRead}
+use Rattle.timetbls.specs.declared.BlocksPut.{BlocksPut}
+use Rattle.timetbls.specs.declared.BlocksPut.the-variants.{All, Refused}
+use Rattle.block_ends.specs.Blocks.{part, Clean, NextBlock}
+use Rattle.timetbls.specs.Blocks.{StrayTold, Holding, Addable, BlockAdded, blocksVerdict}
+use Rattle.timetbls.specs.Blocks.{BlocksReady, BlocksAdded, AfterFirst, BlocksRead, asRead}
 
 -- A LOOP OVER BLOCKS, at `at` and after `done` blocks: what is left says what all were to say, and leaves the rows that all were to leave
 pub record Adding (form : Form) (text : List ℕ) (from : ℕ) (counts : BlockCounts) (co mo st fo was is marks : List ℕ) (at row done : ℕ)
@@ -46,6 +47,7 @@ pub record Adding (form : Form) (text : List ℕ) (from : ℕ) (counts : BlockCo
   pub kept : length is ≡ length was
   pub clean : Clean (lines (drop at text))
   pub holding : Holding is marks run row
+  pub counted : done ≡ length (keysIn Timetbls is)
   pub room : (row + length (lines (drop at text))) * rowWidth Timetbls ≤ length is
   pub rows :
       rowsIn Timetbls was ++ blocksRows form (blocksOf (lines (drop from text)))
@@ -64,6 +66,7 @@ module _ (form : Form) (text : List ℕ) (from : ℕ) (counts : BlockCounts) (co
         kept = refl;
         clean = p .clean;
         holding = rw e (p .holding);
+        counted = ap length (sym (p .none));
         room = p .room;
         rows = refl;
         says = λ c d a. refl;
@@ -93,13 +96,14 @@ module _ (form : Form) (text : List ℕ) (from : ℕ) (counts : BlockCounts) (co
 
       module _ (to more : List ℕ) (r : BlockPut) (y : BlockAdded form b is to more counts co mo st fo r) where
         pub adding-faulty : (w : Reason) (j : ℕ) → r ≡ Faulty w j
-            → BlocksAdded form text from counts co mo st fo was to (Stopped w (At Timetbls (done + 1) j))
+            → BlocksAdded form text from counts co mo st fo was to (Refused w (At Timetbls (done + 1) j))
         adding-faulty w j e =
             record {
               says = λ c d a. rw add-one (sym (k .says c d a ∙ step c d ∙ rw (← (y .says c d a (suc done)), e)));
               filled = λ z. absurd (let q : _≡_ {A = ℕ} 0 1 = cc in omega arith);
               rows = λ z. absurd (let q : _≡_ {A = ℕ} 0 1 = cc in omega arith);
               rises = λ z. absurd (let q : _≡_ {A = ℕ} 0 1 = cc in omega arith);
+              counted = λ b n m z. absurd (let q : _≡_ {A = ℕ} 0 1 = cc in omega arith);
             }
 
         pub adding-next : (with : KeyRun) (behind : ℕ) → r ≡ Kept with behind → length to ≡ length is
@@ -116,6 +120,7 @@ module _ (form : Form) (text : List ℕ) (from : ℕ) (counts : BlockCounts) (co
               kept = m ∙ k .kept;
               clean = n .clean;
               holding = g .holding;
+              counted = omega (arith, k .counted, ap length (g .seen), length-append (keysIn Timetbls is) (serviceOf form (asBlock b) ∷ []));
               room = omega (arith, k .room, n .sized);
               rows =
                   k .rows ∙ ap (λ gs. rowsIn Timetbls is ++ blocksRows form gs) (n .blocks)
@@ -130,7 +135,7 @@ module _ (form : Form) (text : List ℕ) (from : ℕ) (counts : BlockCounts) (co
       unfolding groups
       none = ap blocksOf (lines-end text at h)
 
-      pub adding-end : BlocksAdded form text from counts co mo st fo was is (AllRead (run .rises))
+      pub adding-end : BlocksAdded form text from counts co mo st fo was is (All (run .rises) row done)
       unfolding scan blocksRows
       adding-end =
           record {
@@ -138,6 +143,10 @@ module _ (form : Form) (text : List ℕ) (from : ℕ) (counts : BlockCounts) (co
             filled = λ z. k .holding .filled;
             rows = λ z. sym (k .rows ∙ ap (λ gs. rowsIn Timetbls is ++ blocksRows form gs) none ∙ append-nil (rowsIn Timetbls is));
             rises = λ z. ap (λ (s : KeyRun). s .rises) (k .holding .services) ∙ run-rises (keysIn Timetbls is);
+            counted =
+                λ b n m z. let p : row ≡ n = cc in
+                let q : done ≡ m = cc in
+                record { rows = sym p ∙ k .holding .rows; services = sym q ∙ k .counted };
           }
 
 -- A TABLE THAT HOLDS THE FIRST LINE'S ROW
@@ -162,9 +171,9 @@ after-first text t l from s = record { inside = s .inside; first = firstRowOf Ti
 
 -- and what it tells is what is to be told of the rows behind that line's
 pub rows-read : (form : Form) (text t : List ℕ) (l : Line) (from : ℕ) → Split Timetbls text t l from
-    → (co mo st fo is : List ℕ) (r : RowsRead) → BlocksRead form text from co mo st fo t is r
+    → (co mo st fo is : List ℕ) (r : BlocksPut) → BlocksRead form text from co mo st fo t is r
     → RowsDone Timetbls form (λ c. BlockKeys c co mo st fo) (λ c. timetblsVerdict c (lines (drop from text))) (firstRowOf Timetbls true l)
-    (blocksRows form (blocksOf (lines (drop from text)))) t is r
+    (blocksRows form (blocksOf (lines (drop from text)))) t is (asRead r)
 rows-read form text t l from s co mo st fo is r y = y .done (firstRowOf Timetbls true l) (s .begun)
 
 module _ (text : List ℕ) (from : ℕ) (was : List ℕ) where
@@ -174,12 +183,13 @@ module _ (text : List ℕ) (from : ℕ) (was : List ℕ) where
       record {
         inside = p .inside;
         clean = s .clean e;
+        none = begun-keys (length (lines (drop from text))) (p .first) was (p .begun);
         holding = begun-holding (length (lines (drop from text))) (p .first) was (p .begun) marks m;
         room = omega (arith, p .begun .room);
       }
 
   module _ (form : Form) (co mo st fo : List ℕ) (x : Test) (s : StrayTold (lines (drop from text)) x) where
-    pub read-stray : (w : Reason) → x ≡ Fails w → BlocksRead form text from co mo st fo was was (Stopped w (At Timetbls 0 2))
+    pub read-stray : (w : Reason) → x ≡ Fails w → BlocksRead form text from co mo st fo was was (Refused w (At Timetbls 0 2))
     unfolding timetblsVerdict firstFault
     read-stray w e =
         record {
@@ -190,6 +200,7 @@ module _ (text : List ℕ) (from : ℕ) (was : List ℕ) where
                 rises = λ z. absurd (let q : _≡_ {A = ℕ} 0 1 = cc in omega arith);
                 kept = refl;
               };
+          counted = λ b n m z. absurd (let q : _≡_ {A = ℕ} 0 1 = cc in omega arith);
         }
 
     or-fine : (v : Verdict) → orElse v Fine ≡ v
@@ -202,7 +213,7 @@ module _ (text : List ℕ) (from : ℕ) (was : List ℕ) where
 
     -- among the rows in use, which name what the tables name
     pub read-all : x ≡ Passes → (counts : BlockCounts) → ((c : Context) → BlockKeys c co mo st fo → BlockKeysAmong c counts co mo st fo)
-        → (is : List ℕ) (r : RowsRead) → BlocksAdded form text from counts co mo st fo was is r → length is ≡ length was
+        → (is : List ℕ) (r : BlocksPut) → BlocksAdded form text from counts co mo st fo was is r → length is ≡ length was
         → BlocksRead form text from co mo st fo was is r
     read-all e counts among is r y m =
         record {
@@ -222,4 +233,5 @@ module _ (text : List ℕ) (from : ℕ) (was : List ℕ) where
                     ∙ ap rising (key-skips first rows false (b .other) refl);
                 kept = m;
               };
+          counted = y .counted;
         }

@@ -1,11 +1,11 @@
 -- What the reader of TIMETBLS asks and tells.
-use Prim.Native.Nat.{ℕ, _+_, _-_, _*_, _≤_, _<_}
+use Prim.Native.Nat.{ℕ, _+_, _*_, _≤_}
 use mathlib.Core.Path.{_≡_}
 use mathlib.Core.List.{List, [], _∷_, _++_}
-use mathlib.Core.Bool.{Bool, true, false}
+use mathlib.Core.Bool.{Bool, true}
 use lib.ListN.{length, take, drop}
-use Rattle.iff.specs.Lists.{front, any}
-use Rattle.iff.specs.Refusals.{verdictAt, scan}
+use Rattle.iff.specs.Lists.{front}
+use Rattle.iff.specs.Refusals.{verdictAt, scan, fine}
 use Rattle.iff.specs.Lines.{Line, lines, isHash}
 use Rattle.iff.specs.Tables.{Row, rowWidth, rowsIn, joined, fill, rising}
 use Rattle.iff.specs.declared.File.the-variants.{Timetbls}
@@ -21,39 +21,21 @@ use Rattle.iff_rules.specs.Load.{blockVerdict, serviceOf, strayVerdict, timetbl
 use Rattle.fresh_keys.specs.declared.KeyRun.{KeyRun}
 use Rattle.keys.specs.Lookup.{keysIn}
 use Rattle.fresh_keys.specs.Runs.{noKeys, runOf, stepRun}
-use Rattle.service_marks.specs.Marks.{withMarks, Marked}
+use Rattle.marks.specs.Marks.{withMarks, Marked}
 use Rattle.references.specs.declared.BlockCounts.{BlockCounts}
 use Rattle.references.specs.Agree.{BlockKeys, BlockKeysAmong}
 use Rattle.blocks.specs.declared.Checked.{Checked}
 use Rattle.blocks.specs.declared.Checked.the-variants.{Whole}
 use Rattle.blocks.specs.Whole.{checkedAt, WholeBlock, BlockChecked}
+use Rattle.block_ends.specs.Blocks.{OneBlock, Clean}
 use Rattle.reading.specs.declared.RowsRead.{RowsRead}
-use Rattle.reading.specs.Reading.{Begun, RowsDone, rowsVerdict, risesOf}
+use Rattle.reading.specs.declared.RowsRead.the-variants.{AllRead, Stopped}
+use Rattle.reading.specs.Reading.{Begun, RowsDone, FileRead, rowsVerdict, risesOf}
 use Rattle.timetbls.specs.declared.BlockPut.{BlockPut}
 use Rattle.timetbls.specs.declared.BlockPut.the-variants.{Kept, Faulty}
-
--- WHERE A BLOCK STANDS in a text
-abbrev pub part : List ℕ → ℕ → ℕ → List ℕ
-part t from to = take (to - from) (drop from t)
-
--- one line beginning `#`, the first
-pub record OneBlock (b : List ℕ) : Type 0 where
-  pub some : 0 < length b
-  pub opens : isHash (asBlock b .top) ≡ true
-  pub single : any isHash (asBlock b .rest) ≡ false
-
--- lines that begin with a block, or none
-abbrev pub Clean : List Line → Type 0
-Clean ls = front isHash ls ≡ []
-
--- the block from `from` up to r, and those from r on
-pub record NextBlock (t : List ℕ) (from r : ℕ) : Type 0 where
-  pub low : from < r
-  pub high : r ≤ length t
-  pub one : OneBlock (part t from r)
-  pub blocks : blocksOf (lines (drop from t)) ≡ asBlock (part t from r) ∷ blocksOf (lines (drop r t))
-  pub clean : Clean (lines (drop r t))
-  pub sized : length (lines (drop from t)) ≡ linesIn (asBlock (part t from r)) + length (lines (drop r t))
+use Rattle.timetbls.specs.declared.BlocksPut.{BlocksPut}
+use Rattle.timetbls.specs.declared.BlocksPut.the-variants.{All, Refused}
+use Rattle.timetbls.specs.declared.TimetblsRead.{TimetblsRead}
 
 -- lines before the first block
 pub record StrayTold (ls : List Line) (r : Test) : Type 0 where
@@ -120,16 +102,28 @@ blocksVerdict c seen o ls = scan (λ s i g. blockVerdict c s i g) (λ s g. s ++ 
 pub record BlocksReady (text : List ℕ) (from : ℕ) (t marks : List ℕ) : Type 0 where
   pub inside : from ≤ length text
   pub clean : Clean (lines (drop from text))
+  pub none : keysIn Timetbls t ≡ []
   pub holding : Holding t marks noKeys 1
   pub room : (1 + length (lines (drop from text))) * rowWidth Timetbls ≤ length t
 
-pub record BlocksAdded (form : Form) (text : List ℕ) (from : ℕ) (counts : BlockCounts) (co mo st fo was is : List ℕ) (r : RowsRead) : Type 0 where
+-- what became of them, but for the numbers
+abbrev pub asRead : BlocksPut → RowsRead
+asRead (All rises rows services) = AllRead rises
+asRead (Refused w p) = Stopped w p
+
+-- so many rows and so many services
+pub record Counted (t : List ℕ) (n m : ℕ) : Type 0 where
+  pub rows : n ≡ length (rowsIn Timetbls t)
+  pub services : m ≡ length (keysIn Timetbls t)
+
+pub record BlocksAdded (form : Form) (text : List ℕ) (from : ℕ) (counts : BlockCounts) (co mo st fo was is : List ℕ) (r : BlocksPut) : Type 0 where
   pub says :
       (c : Context) → c .form ≡ form → BlockKeysAmong c counts co mo st fo
-      → rowsVerdict r ≡ blocksVerdict c (keysIn Timetbls was) 1 (lines (drop from text))
-  pub filled : rowsVerdict r ≡ Fine → is ≡ fill (rowWidth Timetbls) (length is) (rowsIn Timetbls is)
-  pub rows : rowsVerdict r ≡ Fine → rowsIn Timetbls is ≡ rowsIn Timetbls was ++ blocksRows form (blocksOf (lines (drop from text)))
-  pub rises : rowsVerdict r ≡ Fine → risesOf r ≡ rising (keysIn Timetbls is)
+      → rowsVerdict (asRead r) ≡ blocksVerdict c (keysIn Timetbls was) 1 (lines (drop from text))
+  pub filled : rowsVerdict (asRead r) ≡ Fine → is ≡ fill (rowWidth Timetbls) (length is) (rowsIn Timetbls is)
+  pub rows : rowsVerdict (asRead r) ≡ Fine → rowsIn Timetbls is ≡ rowsIn Timetbls was ++ blocksRows form (blocksOf (lines (drop from text)))
+  pub rises : rowsVerdict (asRead r) ≡ Fine → risesOf (asRead r) ≡ rising (keysIn Timetbls is)
+  pub counted : (b : Bool) (n m : ℕ) → r ≡ All b n m → Counted is n m
 
 -- THE CONTRACT: lines after a first line whose row alone stands in the table
 abbrev pub BegunAt : List ℕ → ℕ → Row → List ℕ → Type 0
@@ -141,8 +135,15 @@ pub record AfterFirst (text : List ℕ) (from : ℕ) (t : List ℕ) : Type 0 whe
   pub begun : BegunAt text from first t
 
 -- whichever row stands there
-pub record BlocksRead (form : Form) (text : List ℕ) (from : ℕ) (co mo st fo was is : List ℕ) (r : RowsRead) : Type 0 where
+pub record BlocksRead (form : Form) (text : List ℕ) (from : ℕ) (co mo st fo was is : List ℕ) (r : BlocksPut) : Type 0 where
   pub done :
       (first : Row) → BegunAt text from first was
       → RowsDone Timetbls form (λ c. BlockKeys c co mo st fo) (λ c. timetblsVerdict c (lines (drop from text))) first
-      (blocksRows form (blocksOf (lines (drop from text)))) was is r
+      (blocksRows form (blocksOf (lines (drop from text)))) was is (asRead r)
+  pub counted : (b : Bool) (n m : ℕ) → r ≡ All b n m → Counted is n m
+
+-- the whole file, and the numbers where there is no fault
+pub record TimetblsDone (form : Form) (Agree : Context → Type 0) (header text : List ℕ) (v : Verdict) (was is : List ℕ)
+    (r : TimetblsRead) : Type 0 where
+  pub file : FileRead Timetbls form Agree header text v was is (r .verdict)
+  pub counted : fine (r .verdict) ≡ true → Counted is (r .rows) (r .services)

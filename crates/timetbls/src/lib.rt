@@ -13,11 +13,11 @@ ghost use Rattle.iff_rules.specs.Load.{serviceOf};
 ghost use Rattle.iff.specs.Refusals.{fine};
 ghost use Rattle.references.specs.Agree.{BlockKeys};
 ghost use Rattle.keys.specs.Lookup.{keysIn};
-ghost use Rattle.reading.specs.Reading.{Ready, FileRead};
+ghost use Rattle.reading.specs.Reading.{Ready};
 ghost use Rattle.fresh_keys.specs.Runs.{runOf};
-ghost use Rattle.service_marks.specs.Marks.{slots, Marked};
-ghost use Rattle.timetbls.specs.Blocks.{Clean, NextBlock, StrayTold, BlockPlaced, BlockTried, Remembered, Addable, BlockAdded};
-ghost use Rattle.timetbls.specs.Blocks.{BlocksReady, BlocksAdded, AfterFirst, BlocksRead};
+ghost use Rattle.marks.specs.Marks.{slots, Marked};
+ghost use Rattle.timetbls.specs.Blocks.{StrayTold, BlockPlaced, BlockTried, Remembered, Addable, BlockAdded};
+ghost use Rattle.timetbls.specs.Blocks.{BlocksReady, BlocksAdded, AfterFirst, BlocksRead, TimetblsDone};
 
 // What became of a block: what is remembered of the services with it, and where the next block's rows go; or why it is refused, and at which line.
 pub enum BlockPut {
@@ -25,25 +25,21 @@ pub enum BlockPut {
     Faulty(iff::Reason, u64),
 }
 
-// BLOCKS
-
-// Where the block that begins at `from` ends: at the next line beginning `#`, or at the text's end.
-fn next_head(text: &[u8], from: usize) -> usize
-    requires { ⌜ (from < length (now text)) × Clean (lines (drop from (now text))) ⌝ }
-    ensures { λ r. ⌜ NextBlock (now (text .entry)) from r ⌝ }
-{
-    let head = text::line_at(text, from);
-    let mut at = head.next;
-    while at < text.len() {
-        let span = text::line_at(text, at);
-        let end = span.end;
-        if text::first_byte(&text[at..end]) == b'#' {
-            return at;
-        }
-        at = span.next;
-    }
-    at
+// What became of all of them: whether the services rise, how many rows the table has with them, and how many services; or the first fault.
+pub enum BlocksPut {
+    All(bool, usize, u64),
+    Refused(iff::Reason, iff::Place),
 }
+
+// What became of the file, and how many rows and services its table has where there is no fault: they are counted as they are read, so that no later
+// reader goes through the table for them.
+pub struct TimetblsRead {
+    pub verdict: iff::Verdict,
+    pub rows: usize,
+    pub services: u64,
+}
+
+// BLOCKS
 
 // A block that the quick reader left, checked, and then written in the place of what that reader put there.
 fn check_then_write(
@@ -82,7 +78,8 @@ fn check_then_write(
     }
 }
 
-// A block with its rows behind the first `row` rows, if it is whole: at one look if it is told to be right, else as above.
+// A block, of so many lines and stops as it is thought, with its rows behind the first `row` rows, if it is whole: at one look if it is told to
+// be right, else as above.
 fn place_block(
     block: &[u8],
     form: iff::Form,
@@ -95,6 +92,8 @@ fn place_block(
     stations: &[u64],
     footnotes: &[u64],
     places: &[u32],
+    lines: u64,
+    stops: u64,
 ) -> blocks::Checked
     requires { ⌜ (0 < length (now block)) × ((row + linesIn (asBlock (now block))) * rowWidth Timetbls ≤ length (now t)) ⌝ }
     ensures { λ r. ⌜ BlockPlaced form (now (block .entry)) fresh counts
@@ -112,6 +111,8 @@ fn place_block(
         stations,
         footnotes,
         places,
+        lines,
+        stops,
     ) {
         quick_blocks::Quickly::Put(k, n) => blocks::Checked::Whole(k, n),
         quick_blocks::Quickly::Left => check_then_write(
@@ -144,13 +145,15 @@ fn try_block(
     stations: &[u64],
     footnotes: &[u64],
     places: &[u32],
+    lines: u64,
+    stops: u64,
 ) -> blocks::Checked
     requires { ⌜ Addable (now block) (now t) (now marks) run row ⌝ }
     ensures { λ r. ⌜ BlockTried form (now (block .entry)) (now (t .entry)) (now (t .exit)) counts
         (now (companies .entry)) (now (modes .entry)) (now (stations .entry)) (now (footnotes .entry)) row r ⌝ }
 {
     let service = blocks::service_of(block);
-    let fresh = service_marks::is_fresh_service(marks, run, t, service);
+    let fresh = marks::is_fresh(iff::File::Timetbls, marks, run, t, service);
     place_block(
         block,
         form,
@@ -163,6 +166,8 @@ fn try_block(
         stations,
         footnotes,
         places,
+        lines,
+        stops,
     )
 }
 
@@ -172,7 +177,7 @@ fn after_block(run: fresh_keys::KeyRun, marks: &mut [u8], block: &[u8]) -> fresh
     ensures { λ r. ⌜ ((form : Form) → Remembered run (now (marks .entry)) (serviceOf form (asBlock (now (block .entry)))) (now (marks .exit)) r) ⌝ }
 {
     let service = blocks::service_of(block);
-    service_marks::mark(marks, service);
+    marks::mark(marks, service);
     fresh_keys::next_run(run, service)
 }
 
@@ -190,6 +195,8 @@ fn add_block(
     stations: &[u64],
     footnotes: &[u64],
     places: &[u32],
+    lines: u64,
+    stops: u64,
 ) -> BlockPut
     requires { ⌜ Addable (now block) (now t) (now marks) run row ⌝ }
     ensures { λ r. ⌜ BlockAdded form (now (block .entry)) (now (t .entry)) (now (t .exit)) (now (marks .exit)) counts
@@ -208,6 +215,8 @@ fn add_block(
         stations,
         footnotes,
         places,
+        lines,
+        stops,
     ) {
         blocks::Checked::Broken(why, line) => BlockPut::Faulty(why, line),
         blocks::Checked::Whole(k, _) => {
@@ -230,7 +239,7 @@ fn add_blocks(
     stations: &[u64],
     footnotes: &[u64],
     places: &[u32],
-) -> reading::RowsRead
+) -> BlocksPut
     requires { ⌜ BlocksReady (now text) from (now t) (now marks) ⌝ }
     ensures { λ r. ⌜ BlocksAdded form (now (text .entry)) from counts
         (now (companies .entry)) (now (modes .entry)) (now (stations .entry)) (now (footnotes .entry)) (now (t .entry)) (now (t .exit)) r ⌝ }
@@ -241,7 +250,8 @@ fn add_blocks(
     let mut run = fresh_keys::no_keys();
     while at < text.len() {
         let ordinal = done + 1;
-        let next = next_head(text, at);
+        let found = block_ends::next_head(text, at);
+        let next = found.next;
         match add_block(
             &text[at..next],
             form,
@@ -255,10 +265,12 @@ fn add_blocks(
             stations,
             footnotes,
             places,
+            found.lines,
+            found.stops,
         ) {
             BlockPut::Faulty(why, line) => {
                 let place = iff::Place::At(iff::File::Timetbls, ordinal, line);
-                return reading::RowsRead::Stopped(why, place);
+                return BlocksPut::Refused(why, place);
             }
             BlockPut::Kept(with, behind) => {
                 at = next;
@@ -268,7 +280,7 @@ fn add_blocks(
             }
         }
     }
-    reading::RowsRead::AllRead(run.rises)
+    BlocksPut::All(run.rises, row, done)
 }
 
 // Lines before the first `#` belong to no block: the first of them is refused, by its own letter.
@@ -303,7 +315,7 @@ pub fn read_blocks(
     modes: &[u64],
     stations: &[u64],
     footnotes: &[u64],
-) -> reading::RowsRead
+) -> BlocksPut
     requires { ⌜ AfterFirst (now text) from (now t) ⌝ }
     ensures { λ r. ⌜ BlocksRead form (now (text .entry)) from
         (now (companies .entry)) (now (modes .entry)) (now (stations .entry)) (now (footnotes .entry)) (now (t .entry)) (now (t .exit)) r ⌝ }
@@ -311,7 +323,7 @@ pub fn read_blocks(
     match stray_test(text, from) {
         iff::Test::Fails(why) => {
             let place = iff::Place::At(iff::File::Timetbls, 0, 2);
-            reading::RowsRead::Stopped(why, place)
+            BlocksPut::Refused(why, place)
         }
         iff::Test::Passes => {
             let counts = references::count_for_blocks(companies, modes, stations, footnotes);
@@ -369,29 +381,46 @@ pub fn read_timetbls(
     modes: &[u64],
     stations: &[u64],
     footnotes: &[u64],
-) -> iff::Verdict
+) -> TimetblsRead
     requires { ⌜ (fine v ≡ true → Ready Timetbls (now text) (now t)) ⌝ }
-    ensures { λ r. ⌜ FileRead Timetbls form
+    ensures { λ r. ⌜ TimetblsDone form
         (λ c. BlockKeys c (now (companies .entry)) (now (modes .entry)) (now (stations .entry)) (now (footnotes .entry)))
         (now (header .entry)) (now (text .entry)) v (now (t .entry)) (now (t .exit)) r ⌝ }
 {
     match v {
-        iff::Verdict::Fault(r, p) => iff::Verdict::Fault(r, p),
+        iff::Verdict::Fault(r, p) => TimetblsRead {
+            verdict: iff::Verdict::Fault(r, p),
+            rows: 0,
+            services: 0,
+        },
         iff::Verdict::Fine => {
             if text.len() == 0 {
-                return iff::Verdict::Fine;
+                return TimetblsRead {
+                    verdict: iff::Verdict::Fine,
+                    rows: 0,
+                    services: 0,
+                };
             }
             match heads::begin_file(iff::File::Timetbls, text, header, t) {
-                reading::Begin::Broken(r) => iff::Verdict::Fault(
-                    r,
-                    iff::Place::At(iff::File::Timetbls, 0, 1),
-                ),
+                reading::Begin::Broken(r) => TimetblsRead {
+                    verdict: iff::Verdict::Fault(r, iff::Place::At(iff::File::Timetbls, 0, 1)),
+                    rows: 0,
+                    services: 0,
+                },
                 reading::Begin::Rest(from) => {
                     match read_blocks(text, from, form, t, companies, modes, stations, footnotes) {
-                        reading::RowsRead::Stopped(r, p) => iff::Verdict::Fault(r, p),
-                        reading::RowsRead::AllRead(rises) => {
+                        BlocksPut::Refused(r, p) => TimetblsRead {
+                            verdict: iff::Verdict::Fault(r, p),
+                            rows: 0,
+                            services: 0,
+                        },
+                        BlocksPut::All(rises, rows, services) => {
                             heads::set_rises(t, rises);
-                            iff::Verdict::Fine
+                            TimetblsRead {
+                                verdict: iff::Verdict::Fine,
+                                rows: rows,
+                                services: services,
+                            }
                         }
                     }
                 }

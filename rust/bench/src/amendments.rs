@@ -1,14 +1,15 @@
 //! Amendments of one delivery's tables, beside a fresh load of the edited
 //! delivery and the second program's own amendments.
 
-use std::time::{Duration, Instant};
+use std::time::Duration;
 
 use compare::{amended_by_proved, by_proved, junk, lengths_of, Outcome, Tables};
 use deliveries::{amendment, edited, large, place, Amendment, Case, Rng};
 use proved::Answer;
 use second::Store;
 
-use crate::measure::{mean, timed, Order, Plan, ENOUGH, ROUNDS};
+use crate::plan::{Order, Size};
+use crate::rounds::{in_rounds, mean, timed};
 
 pub const HEADING: &str = "\
 | services | keys | amend s | sound s | amend less sound ms | load s | amend / load | second, of its store ms | second, of tables s | amend / second, of tables |
@@ -19,9 +20,9 @@ const AMENDMENTS: usize = 5;
 /// Lines of room beside those that the delivery has.
 const SPARE: usize = 2_000;
 
-/// Measures, and answers a row of the table.
-pub fn row(plan: Plan) -> String {
-    let (world, mut case) = large(1, plan.services, plan.order == Order::Rising);
+/// Measures, and answers the row's cells behind services and keys.
+pub fn row(size: Size) -> String {
+    let (world, mut case) = large(1, size.services, size.order == Order::Rising);
     case.rooms[place::TIMETBLS] += SPARE;
     let store = second::load(&case.texts(), &case.rooms).expect("a sound delivery");
     let mut rng = Rng::new(1);
@@ -33,9 +34,7 @@ pub fn row(plan: Plan) -> String {
     let Times { amended, soundness, loaded, of_store, of_tables } = best(&case, &store, &amendments);
     let (amended, of_store) = (mean(&amended), mean(&of_store));
     format!(
-        "| {} | {} | {amended:.4} | {:.4} | {:.2} | {:.4} | {:.2} | {:.4} | {:.4} | {:.2} |",
-        plan.services,
-        plan.order,
+        " {amended:.4} | {:.4} | {:.2} | {:.4} | {:.2} | {:.4} | {:.4} | {:.2} |",
         soundness.as_secs_f64(),
         (amended - soundness.as_secs_f64()) * 1e3,
         loaded.as_secs_f64(),
@@ -59,7 +58,6 @@ struct Times {
 
 /// All must agree.
 fn best(case: &Case, store: &Store, amendments: &[Amendment]) -> Times {
-    let start = Instant::now();
     let lengths = lengths_of(&case.rooms);
     let last = amendments
         .iter()
@@ -73,7 +71,7 @@ fn best(case: &Case, store: &Store, amendments: &[Amendment]) -> Times {
         of_store: [longest; AMENDMENTS],
         of_tables: longest,
     };
-    for _ in 0..ROUNDS {
+    in_rounds(|| {
         let Outcome { answer, mut tables } = by_proved(case.texts(), junk(&mut rng, &lengths));
         let lent = tables.each_ref().map(Vec::as_slice);
         assert!(timed(&mut best.soundness, || proved::is_sound(lent)), "Loaded tables are not sound.");
@@ -95,10 +93,7 @@ fn best(case: &Case, store: &Store, amendments: &[Amendment]) -> Times {
             let amended = amended.expect("a sound block");
             assert!(answer == Answer::accepted(amended.days, amended.services), "The two programs differ.");
         }
-        if start.elapsed() > ENOUGH {
-            break;
-        }
-    }
+    });
     best
 }
 

@@ -1,12 +1,19 @@
-//! Times the proved crates and the second program side by side on large
-//! deliveries, with keys that rise and keys in any order: loads, with soundness
-//! of their tables and a change; and amendments.
+//! Times the proved crates and the second program side by side. Three tables:
+//! loads of large deliveries, with keys that rise and keys in any order, with
+//! soundness of their tables and a change; amendments of them; and loads of
+//! deliveries with many of one thing, in no order.
 //!
-//! usage: bench [--loads | --amendments] [--max-services N] [--seconds N]
+//! usage: bench [--loads | --amendments | --files] [--max-services N] [--seconds N]
+//!        bench --stack
 //!
-//! Each delivery is measured in a process of its own, once for loads and once for
-//! amendments, which is ended when it has taken the seconds given (60 if none
-//! are).
+//! Each delivery is measured in a process of its own, once for each table, which
+//! is ended when it has taken the seconds given (60 if none are). Deliveries of
+//! 500,000 services are measured where --max-services asks for them.
+//!
+//! The columns of loads that are no program's: `count lines`, the ends of
+//! TIMETBLS' lines counted; `read files`, each byte of all files read once;
+//! `write tables`, each word of all tables written once: what the machine can do
+//! at best, in the same rounds.
 //!
 //! The columns of amendments: `amend`, the proved amendment of tables where they
 //! stand, the mean of five in a row on services anywhere in the file; `sound`,
@@ -17,30 +24,44 @@
 //! with an index, and tests no more; `second, of tables`, what the proved
 //! amendment does: tables opened, which tests them, amended, and encoded into
 //! new ones.
+//!
+//! The columns of long files: `growth`, the time beside that of the same work
+//! with a quarter of the things: 4 where times grow with their number, 16 where
+//! they grow with its square.
+//!
+//! `--stack` measures no time, but the stack that the proved functions take.
 
 mod amendments;
-mod measure;
+mod files;
+mod limits;
+mod loads;
 mod options;
+mod paint;
+mod plan;
+mod rounds;
+mod stack;
 
 use std::process::{Child, Command, ExitCode, ExitStatus, Stdio};
 use std::time::{Duration, Instant};
 use std::{env, io, thread};
 
-use crate::measure::{Order, Plan, Table};
-use crate::options::{asked, Asked, Options};
-
-const SERVICES: [usize; 3] = [1_000, 10_000, 60_000];
+use crate::options::{asked, Asked, Options, USAGE};
+use crate::plan::{Plan, Table};
 
 fn main() -> ExitCode {
     let arguments: Vec<String> = env::args().skip(1).collect();
     let done = match asked(&arguments) {
         Some(Asked::Measure(plan)) => {
-            println!("{}", row(plan));
+            println!("{}{}", plan.cells(), measured(plan));
             Ok(())
         }
         Some(Asked::Tables(options)) => tables(options),
+        Some(Asked::Stack) => {
+            stack::print();
+            Ok(())
+        }
         None => {
-            eprintln!("usage: bench [--loads | --amendments] [--max-services N] [--seconds N]");
+            eprintln!("{USAGE}");
             return ExitCode::from(2);
         }
     };
@@ -53,28 +74,41 @@ fn main() -> ExitCode {
     }
 }
 
-fn row(plan: Plan) -> String {
-    match plan.table {
-        Table::Loads => measure::row(plan),
-        Table::Amendments => amendments::row(plan),
+fn measured(plan: Plan) -> String {
+    match plan {
+        Plan::Loads(size) => loads::row(size),
+        Plan::Amendments(size) => amendments::row(size),
+        Plan::Files(many) => files::row(many),
     }
 }
 
 fn tables(options: Options) -> io::Result<()> {
-    println!("{}", measure::conditions());
+    println!("{}", conditions());
     for table in Table::ALL.into_iter().filter(|table| options.only.is_none_or(|only| only == *table)) {
         let heading = match table {
-            Table::Loads => measure::HEADING,
+            Table::Loads => loads::HEADING,
             Table::Amendments => amendments::HEADING,
+            Table::Files => files::HEADING,
         };
         println!("\n{heading}");
-        for services in SERVICES.into_iter().filter(|&services| services <= options.max_services) {
-            for order in [Order::Rising, Order::Shuffled] {
-                measure_within(options.limit, Plan { table, services, order })?;
-            }
+        for plan in table.rows(options.max_services) {
+            measure_within(options.limit, plan)?;
         }
     }
     Ok(())
+}
+
+/// Under what conditions the tables were measured.
+fn conditions() -> String {
+    let cores = thread::available_parallelism().map_or(0, usize::from);
+    let machine = match proved::EMULATED {
+        true => "The proved crates run under an emulator and are handed everything through pipes, the second program runs on the machine itself: their ratio says nothing, growth with size does.",
+        false => "Both run on the machine itself.",
+    };
+    format!(
+        "{cores} cores ({}). {machine}\nTables are lent full of junk, their memory touched before: the proved load clears them in its time. The second program's time is its load and the encoding into new tables; soundness, which every question tests first, is held against it.",
+        env::consts::ARCH,
+    )
 }
 
 fn measure_within(limit: Duration, plan: Plan) -> io::Result<()> {
@@ -85,17 +119,15 @@ fn measure_within(limit: Duration, plan: Plan) -> io::Result<()> {
         None => {
             measuring.kill()?;
             measuring.wait()?;
-            println!("| {} | {} | skipped: it takes more than {limit:?} |", plan.services, plan.order);
+            println!("{} skipped: it takes more than {limit:?} |", plan.cells());
             Ok(())
         }
     }
 }
 
-/// Starts this program again for one delivery; it prints its row itself.
+/// Starts this program again for one row, which it prints itself.
 fn start(plan: Plan) -> io::Result<Child> {
-    let arguments =
-        ["measure".into(), plan.table.to_string(), plan.services.to_string(), plan.order.to_string()];
-    Command::new(env::current_exe()?).args(arguments).stdin(Stdio::null()).spawn()
+    Command::new(env::current_exe()?).arg("measure").args(plan.words()).stdin(Stdio::null()).spawn()
 }
 
 /// Waits for the process; answers how it ended, if it did within the time.

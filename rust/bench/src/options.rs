@@ -2,12 +2,17 @@
 
 use std::time::Duration;
 
-use crate::measure::{Order, Plan, Table};
+use crate::plan::{Plan, Table};
+
+pub const USAGE: &str = "\
+usage: bench [--loads | --amendments | --files] [--max-services N] [--seconds N]
+       bench --stack";
 
 pub enum Asked {
     Tables(Options),
     /// One row of a table, which the program asks of itself.
     Measure(Plan),
+    Stack,
 }
 
 #[derive(Clone, Copy)]
@@ -18,16 +23,13 @@ pub struct Options {
     pub limit: Duration,
 }
 
-const DEFAULT: Options = Options { only: None, max_services: usize::MAX, limit: Duration::from_secs(60) };
+const DEFAULT: Options = Options { only: None, max_services: 60_000, limit: Duration::from_secs(60) };
 
 pub fn asked(arguments: &[String]) -> Option<Asked> {
     let arguments: Vec<&str> = arguments.iter().map(String::as_str).collect();
     match arguments[..] {
-        ["measure", table, services, order] => Some(Asked::Measure(Plan {
-            table: Table::named(table)?,
-            services: services.parse().ok()?,
-            order: Order::named(order)?,
-        })),
+        ["measure", ref words @ ..] => Plan::of_words(words).map(Asked::Measure),
+        ["--stack"] => Some(Asked::Stack),
         _ => options(&arguments, DEFAULT).map(Asked::Tables),
     }
 }
@@ -35,14 +37,15 @@ pub fn asked(arguments: &[String]) -> Option<Asked> {
 fn options(arguments: &[&str], so_far: Options) -> Option<Options> {
     match *arguments {
         [] => Some(so_far),
-        ["--loads", ref rest @ ..] => options(rest, Options { only: Some(Table::Loads), ..so_far }),
-        ["--amendments", ref rest @ ..] => options(rest, Options { only: Some(Table::Amendments), ..so_far }),
         ["--max-services", count, ref rest @ ..] => {
             options(rest, Options { max_services: count.parse().ok()?, ..so_far })
         }
         ["--seconds", count, ref rest @ ..] => {
             options(rest, Options { limit: Duration::from_secs(count.parse().ok()?), ..so_far })
         }
-        _ => None,
+        [option, ref rest @ ..] => {
+            let table = Table::ALL.into_iter().find(|table| format!("--{table}") == option)?;
+            options(rest, Options { only: Some(table), ..so_far })
+        }
     }
 }

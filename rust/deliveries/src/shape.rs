@@ -14,6 +14,8 @@ pub struct Shape {
     pub zones: RangeInclusive<usize>,
     pub stations: RangeInclusive<usize>,
     pub footnotes: RangeInclusive<usize>,
+    /// Footnotes of XFOOTNOTE, where it is there.
+    pub special_footnotes: RangeInclusive<usize>,
     pub services: RangeInclusive<usize>,
     pub stops: RangeInclusive<usize>,
     /// Stations in CHANGES, and in XCHANGES.
@@ -43,6 +45,7 @@ impl Shape {
             zones: 1..=3,
             stations: 2..=8,
             footnotes: 1..=5,
+            special_footnotes: 1..=5,
             services: if rng.percent(4) { 0..=0 } else { 1..=6 },
             stops: 2..=7,
             change_stations: 0..=6,
@@ -65,6 +68,7 @@ impl Shape {
             zones: 2..=3,
             stations: 3..=8,
             footnotes: 2..=5,
+            special_footnotes: 2..=5,
             services: 2..=5,
             stops: 3..=7,
             change_stations: 2..=5,
@@ -76,7 +80,8 @@ impl Shape {
         }
     }
 
-    /// A national timetable with this many services, some 20 lines each.
+    /// A national timetable with this many services, some 20 lines each. With
+    /// 500,000 TIMETBLS stays below the largest length of a file.
     pub fn large(services: usize, rising: bool) -> Shape {
         let stations = (services / 50).clamp(50, 2_000);
         let footnotes = (services / 30).clamp(30, 4_000);
@@ -88,6 +93,7 @@ impl Shape {
             zones: 3..=3,
             stations: stations..=stations,
             footnotes: footnotes..=footnotes,
+            special_footnotes: footnotes..=footnotes,
             services: services..=services,
             stops: 2..=16,
             change_stations: stations / 4..=stations / 4,

@@ -96,7 +96,7 @@ fn keys(rng: &mut Rng, shape: &Shape) -> World {
         &shape.zones,
         &shape.stations,
         &shape.footnotes,
-        &shape.footnotes,
+        &shape.special_footnotes,
         &shape.services,
     ]
     .map(|range| rng.within(range));
@@ -140,7 +140,7 @@ fn first_day(rng: &mut Rng, days: usize, at_borders: bool) -> i64 {
     }
 }
 
-fn date(day: i64) -> Vec<u8> {
+pub fn date(day: i64) -> Vec<u8> {
     number(calendar::written(day), 8)
 }
 

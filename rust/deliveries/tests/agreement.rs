@@ -10,8 +10,8 @@ use deliveries::amendments::is_one_block;
 use deliveries::causes::{Place, ACCEPTED};
 use deliveries::place::*;
 use deliveries::{
-    amendment, causes, edited, limit, limits, mixed, of_each_sort, sound, Amendment, Case, Caused, Limit,
-    Rng, Tally, World, WAYS,
+    amendment, causes, edited, limit, limits, many, mixed, of_each_sort, sound, Amendment, Case, Caused,
+    Limit, Many, Rng, Tally, World, WAYS,
 };
 use second::{amend, encode, open, rooms_of, Store};
 
@@ -115,6 +115,15 @@ fn limits_are_met_and_passed() {
             _ => None,
         };
         assert_eq!(refusal, expected, "{limit_is:?}");
+    }
+}
+
+#[test]
+fn deliveries_with_many_of_one_thing_are_accepted_and_have_them() {
+    for of in Many::ALL {
+        let case = many(1, of, of.most());
+        assert!(outcome(&case).is_ok(), "{of:?}");
+        assert!(second::count_lines(&case.files[of.file()]) > of.most() * 19 / 20, "{of:?}");
     }
 }
 

@@ -7,12 +7,16 @@ use std::fs;
 use std::io::Write;
 use std::path::{Path, PathBuf};
 use std::process::{Command, Stdio};
-use std::time::{Duration, Instant};
+use std::time::Instant;
 
 use deliveries::{folder, large, question_on_tables, Case, Question, Rng, World};
 
 /// Rounds, of which the best times are taken.
 const ROUNDS: usize = 10;
+
+/// How often a round runs a command. The first run may find that the machine has
+/// taken back the memory that the one before had.
+const RUNS: usize = 2;
 
 fn main() {
     let mut numbers = std::env::args().skip(1).map(|word| word.parse().expect("a number"));
@@ -59,57 +63,67 @@ fn measure(work: &Path, services: usize, questions: usize) {
     fs::write(&file, block).expect("the block is written");
     let file = file.to_str().expect("a path in UTF-8").to_string();
 
-    let longest = Duration::MAX;
-    let (mut second, mut load, mut sound) = (longest, longest, longest);
-    let (mut check, mut open, mut changed, mut amended) = (longest, longest, longest, longest);
+    let mut times: [Times; 8] = Default::default();
+    let [second, load, sound, start, check, open, changed, amended] = &mut times;
     for _ in 0..ROUNDS {
         let lengths: [usize; 11] =
             std::array::from_fn(|file| second::count_lines(&case.files[file]) * WIDTHS[file]);
-        timed(&mut second, || {
+        second.of(|| {
             let store = second::load(&case.texts(), &second::rooms_of(&lengths)).expect("a sound delivery");
             assert_eq!(second::encode(&store, &lengths).len(), 11);
         });
         let mut tables = lengths.map(|length| vec![u64::MAX; length]);
-        timed(&mut load, || {
+        load.of(|| {
             let answer = proved::load(case.texts(), tables.each_mut().map(Vec::as_mut_slice));
             assert!(answer.is_accepted());
         });
-        timed(&mut sound, || assert!(proved::is_sound(tables.each_ref().map(Vec::as_slice))));
+        sound.of(|| assert!(proved::is_sound(tables.each_ref().map(Vec::as_slice))));
         drop(tables);
-        timed(&mut check, || drop(run(&["check"], &[&delivery], "")));
-        timed(&mut open, || drop(run(&["open", "--replace"], &[&delivery, &store], "")));
-        timed(&mut changed, || drop(run(&change, &[&store], "")));
-        timed(&mut amended, || drop(run(&["amend", &service, &file], &[&store], "")));
+        for _ in 0..RUNS {
+            start.of(|| drop(run(&["--version"], &[], "")));
+            check.of(|| drop(run(&["check"], &[&delivery], "")));
+            changed.of(|| drop(run(&change, &[&store], "")));
+            amended.of(|| drop(run(&["amend", &service, &file], &[&store], "")));
+        }
+        open.of(|| drop(run(&["open", "--replace"], &[&delivery, &store], "")));
     }
-    println!("| what | s | beside the second program's load |");
-    println!("|---|---|---|");
-    let row = |what: &str, time: Duration| {
-        println!("| {what} | {:.3} | {:.2} |", time.as_secs_f64(), time.as_secs_f64() / second.as_secs_f64());
+    println!("| what | s | median | beside the second program's load |");
+    println!("|---|---|---|---|");
+    let row = |what: &str, times: &Times| {
+        let beside = times.best() / second.best();
+        println!("| {what} | {:.3} | {:.3} | {beside:.2} |", times.best(), times.median());
     };
     row("the second program's load and its tables, in this process", second);
     row("the proved load, in this process", load);
     row("soundness, in this process", sound);
+    row("`--version`: start and exit alone", start);
     row("`change`", changed);
     row("`check`", check);
     row("`open`", open);
     row("`amend`", amended);
-    println!(
-        "\n`check` takes {:.2} of the proved load's own time.",
-        check.as_secs_f64() / load.as_secs_f64()
-    );
+    println!();
+    let held = |what: &str, part: f64, whole: &str, goal: f64| {
+        let met = if part <= goal { "met" } else { "missed" };
+        println!("{what} takes {part:.2} of {whole}; the goal, at most {goal:.2}, is {met}.");
+    };
+    held("`change`", changed.best() / second.best(), "the second program's load", 0.5);
+    held("`check`", check.best() / load.best(), "the proved load's own time", 1.25);
+    let beside = |what: &str, times: &Times, part: &str, own: &Times, rest: &str| {
+        let (more, start) = (times.best() - own.best(), start.best());
+        println!("Beside {part}, {what} takes {more:.3} s: {start:.3} to start and to exit, else {rest}.");
+    };
+    beside("`check`", check, "the load", load, "files that are read and memory for the tables");
+    beside("`change`", changed, "soundness", sound, "lookups, names and pages that are mapped");
     if questions > 0 {
         let input: String =
             (0..questions).map(|_| line(&question_on_tables(&mut rng, &world)) + "\n").collect();
-        let mut asked = longest;
-        timed(&mut asked, || {
+        let mut asked = Times::default();
+        asked.of(|| {
             let said = run(&["ask"], &[&store], &input);
             assert_eq!(said.stdout.iter().filter(|&&byte| byte == b'\n').count(), questions);
         });
-        println!(
-            "`ask` with {questions} questions: {:.1} s, {:.1} ms each.",
-            asked.as_secs_f64(),
-            asked.as_secs_f64() * 1e3 / questions as f64
-        );
+        let (all, each) = (asked.best(), asked.best() * 1e3 / questions as f64);
+        println!("`ask` with {questions} questions: {all:.1} s, {each:.1} ms each.");
     }
 }
 
@@ -158,9 +172,23 @@ fn line(question: &Question) -> String {
     }
 }
 
-/// Does the work, and keeps its time where it is the best so far.
-fn timed(best: &mut Duration, work: impl FnOnce()) {
-    let start = Instant::now();
-    work();
-    *best = start.elapsed().min(*best);
+/// The times of the same work, in seconds.
+#[derive(Default)]
+struct Times(Vec<f64>);
+
+impl Times {
+    fn of(&mut self, work: impl FnOnce()) {
+        let start = Instant::now();
+        work();
+        self.0.push(start.elapsed().as_secs_f64());
+        self.0.sort_by(f64::total_cmp);
+    }
+
+    fn best(&self) -> f64 {
+        self.0[0]
+    }
+
+    fn median(&self) -> f64 {
+        self.0[self.0.len() / 2]
+    }
 }

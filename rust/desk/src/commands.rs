@@ -19,7 +19,7 @@ use crate::records::unpack;
 use crate::show;
 use crate::speech::{counted, refusal, Colour};
 use crate::store::{keep, Lock, Replacing, Store};
-use crate::tables::Tables;
+use crate::tables::{Service, Station, Tables};
 use crate::trouble::Trouble;
 
 pub const DONE: u8 = 0;
@@ -181,8 +181,11 @@ impl Desk {
 
     fn runs(&self, root: &Path, service: u64, leg: u64, day: u64) -> Result<Told, Trouble> {
         let mut store = self.read(root)?;
-        let answer =
-            store.ask(&self.progress, |tables| proved::running_day(tables.lent(), service, leg, day))?;
+        let (answer, stops) = store.ask_beside(
+            &self.progress,
+            |tables| proved::running_day(tables.lent(), service, leg, day),
+            |tables| [leg, leg.saturating_add(1)].map(|stop| tables.stop(service, stop)),
+        )?;
         let running = match answer {
             Ok(running) => running,
             Err(refusal) => {
@@ -190,28 +193,23 @@ impl Desk {
             }
         };
         let names = Names::of(&store)?;
-        let held = store.tables.service(service);
-        let stop = |number: u64| {
-            let stop = held.and_then(|held| held.stop(number));
-            stop.map_or(String::new(), |stop| names.both(stop.station))
-        };
+        let [from, to] = stops.map(|stop| stop.map_or(String::new(), |stop| names.both(stop.station)));
         let does = match running {
             Running::Runs => self.colour.good("runs"),
             Running::Rests => self.colour.bad("does not run"),
         };
-        let text = format!(
-            "Service {service:08} {does} on {} on leg {leg}, from {} to {}.\n",
-            date(day),
-            stop(leg),
-            stop(leg + 1)
-        );
+        let text =
+            format!("Service {service:08} {does} on {} on leg {leg}, from {from} to {to}.\n", date(day));
         Ok(Told::new(DONE, text, json(&Runs::of(running))))
     }
 
     fn stop(&self, root: &Path, service: u64, stop: u64, day: u64) -> Result<Told, Trouble> {
         let mut store = self.read(root)?;
-        let answer =
-            store.ask(&self.progress, |tables| proved::stop_time(tables.lent(), service, stop, day))?;
+        let (answer, stops) = store.ask_beside(
+            &self.progress,
+            |tables| proved::stop_time(tables.lent(), service, stop, day),
+            |tables| tables.service(service).map_or(0, |held| held.stop_count()),
+        )?;
         let times = match answer {
             Ok(times) => times,
             Err(refusal) => {
@@ -219,7 +217,6 @@ impl Desk {
             }
         };
         let names = Names::of(&store)?;
-        let stops = store.tables.service(service).map_or(0, |held| held.stop_count());
         let mut text = self.colour.strong(&format!(
             "{} (stop {stop} of {stops} of service {service:08})",
             names.both(times.station)
@@ -248,14 +245,17 @@ impl Desk {
 
     fn change(&self, root: &Path, from: Side, to: Side) -> Result<Told, Trouble> {
         let mut store = self.read(root)?;
-        let answer = store.ask(&self.progress, |tables| proved::change(tables.lent(), from, to))?;
+        let (answer, stops) = store.ask_beside(
+            &self.progress,
+            |tables| proved::change(tables.lent(), from, to),
+            |tables| [from, to].map(|side| tables.stop(side.service, side.stop)),
+        )?;
         let change = match answer {
             Ok(change) => change,
             Err(refusal) => return Ok(self.question(&mut store, refusal, Asked::Change { from, to })),
         };
         let names = Names::of(&store)?;
-        let at = |side: Side| store.tables.service(side.service).and_then(|held| held.stop(side.stop));
-        let (Some(left), Some(boarded)) = (at(from), at(to)) else {
+        let [Some(left), Some(boarded)] = stops else {
             return Err(Trouble::new("The store's tables do not show what was answered from them."));
         };
         let (arrival, departure) = (left.arrival.map(clock), boarded.departure.map(clock));
@@ -299,15 +299,15 @@ impl Desk {
 
     fn service(&self, root: &Path, service: u64, day: Option<u64>) -> Result<Told, Trouble> {
         let mut store = self.read(root)?;
-        store.sound(&self.progress)?;
-        if store.tables.service(service).is_none() {
+        let held = store.sound_beside(&self.progress, |tables| {
+            tables.service(service).map(|held| held.words().to_vec())
+        })?;
+        let Some(held) = held else {
             return Ok(self.question(&mut store, Refusal(12), Asked::Service(service)));
-        }
+        };
+        let held = Service::of(&held);
         // Whether it runs is asked once for each record of validity.
-        let legs: Vec<u64> = store
-            .tables
-            .service(service)
-            .map_or(Vec::new(), |held| held.records(b'-').map(|row| row[2]).collect());
+        let legs: Vec<u64> = held.records(b'-').map(|row| row[2]).collect();
         let mut runs = Vec::new();
         for leg in legs {
             let Some(day) = day else { break };
@@ -318,29 +318,20 @@ impl Desk {
                 }
             }
         }
-        let shown = show::service(&store, service, &runs)?;
+        let shown = show::service(&store, held, &runs)?;
         let text = show::service_text(&shown, day, &store.tables, self.colour);
         Ok(Told::new(DONE, text, json(&shown)))
     }
 
     fn station(&self, root: &Path, asked: &str) -> Result<Told, Trouble> {
         let mut store = self.read(root)?;
-        store.sound(&self.progress)?;
-        let Some(station) = store.tables.station(packed(asked)) else {
+        let found = store.sound_beside(&self.progress, |tables| {
+            tables.station(packed(asked)).map(|station| (station, callers(tables, &station)))
+        })?;
+        let Some((station, calls)) = found else {
             return Ok(self.question(&mut store, Refusal(17), Asked::Station(asked)));
         };
         let names = Names::of(&store)?;
-        let mut calls = Vec::new();
-        for service in store.tables.services() {
-            for (stop, number) in service.stops().zip(1..).filter(|(stop, _)| stop.station == station.code) {
-                calls.push(answers::Caller {
-                    service: service.number(),
-                    stop: number,
-                    arrival: stop.arrival.map(clock),
-                    departure: stop.departure.map(clock),
-                });
-            }
-        }
         let shown = answers::Station {
             station: latin(&unpack(station.code, 7)),
             name: names.station(station.code),
@@ -397,6 +388,21 @@ impl Desk {
             json(&Accepted { amendment: Some(store.amendments), ..Accepted::of(&answer) }),
         ))
     }
+}
+
+/// Who calls at a station.
+fn callers(tables: &Tables, station: &Station) -> Vec<answers::Caller> {
+    let here = |service: Service| {
+        let calls = service.stops().zip(1..).filter(|(stop, _)| stop.station == station.code);
+        let called = calls.map(|(stop, number)| answers::Caller {
+            service: service.number(),
+            stop: number,
+            arrival: stop.arrival.map(clock),
+            departure: stop.departure.map(clock),
+        });
+        called.collect::<Vec<_>>()
+    };
+    tables.services().flat_map(here).collect()
 }
 
 /// The file of an amendment; one that is longer than TIMETBLS may be is refused

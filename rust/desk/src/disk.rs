@@ -5,7 +5,8 @@ use std::fs::{self, File};
 use std::io::{self, ErrorKind, Write};
 use std::os::unix::fs::FileExt;
 use std::path::Path;
-use std::thread;
+
+use crate::memory::in_parts;
 
 const FACTOR: u64 = 0x9E37_79B9_7F4A_7C15;
 const LANES: usize = 4;
@@ -66,28 +67,15 @@ pub fn put(from: &Path, to: &Path) -> io::Result<()> {
     sync_folder(to.parent().unwrap_or(Path::new(".")))
 }
 
-/// Fills words from a place of a file that has them with the lowest byte first;
-/// many of them in several parts at once.
-pub fn read_words(file: &File, from: u64, words: &mut [u64]) -> io::Result<()> {
-    const MANY: usize = 1 << 20;
-    let parts =
-        if words.len() < MANY { 1 } else { thread::available_parallelism().map_or(1, usize::from).min(4) };
-    let length = words.len().div_ceil(parts).max(1);
-    thread::scope(|scope| {
-        let place = |part: usize| from + (part * length * size_of::<u64>()) as u64;
-        let mut pieces = words.chunks_mut(length).enumerate();
-        let first = pieces.next();
-        let others: Vec<_> =
-            pieces.map(|(part, piece)| scope.spawn(move || read_piece(file, place(part), piece))).collect();
-        let read = first.map_or(Ok(()), |(part, piece)| read_piece(file, place(part), piece));
-        others
-            .into_iter()
-            .fold(read, |read, other| read.and(other.join().unwrap_or(Err(ErrorKind::Other.into()))))
-    })
+/// Fills bytes from a place of a file; many of them in several parts at once.
+pub fn read_bytes(file: &File, from: u64, bytes: &mut [u8]) -> io::Result<()> {
+    let read = in_parts(bytes, |start, part| file.read_exact_at(part, from + start as u64));
+    read.into_iter().try_for_each(|part| part.unwrap_or(Err(ErrorKind::Other.into())))
 }
 
-fn read_piece(file: &File, from: u64, words: &mut [u64]) -> io::Result<()> {
-    file.read_exact_at(bytes_of_mut(words), from)?;
+/// Fills words from a place of a file that has them with the lowest byte first.
+pub fn read_words(file: &File, from: u64, words: &mut [u64]) -> io::Result<()> {
+    read_bytes(file, from, bytes_of_mut(words))?;
     if cfg!(target_endian = "big") {
         words.iter_mut().for_each(|word| *word = u64::from_le(*word));
     }

@@ -1,9 +1,11 @@
 //! The eleven files of a delivery, and their texts as a folder has them.
 
 use std::fs::{self, File};
-use std::io::{self, Read};
+use std::io::{self, Read, Seek, SeekFrom};
 use std::path::{Path, PathBuf};
 
+use crate::disk::read_bytes;
+use crate::memory::zeros;
 use crate::progress::Progress;
 use crate::trouble::Trouble;
 
@@ -115,14 +117,29 @@ fn no_folder(folder: &Path, error: &io::Error) -> Trouble {
     }
 }
 
-/// A file's bytes, up to so many.
+/// A file's bytes, up to so many. They are read and not mapped: another program
+/// may write to the file meanwhile, or cut it short.
 pub fn read_up_to(path: &Path, most: u64, mut read: impl FnMut(u64)) -> io::Result<Vec<u8>> {
-    const STEP: u64 = 1 << 20;
-    let file = File::open(path)?;
-    let mut bytes = Vec::with_capacity(file.metadata()?.len().min(most) as usize);
-    let mut rest = file.take(most);
+    const STEP: usize = 32 << 20;
+    let mut file = File::open(path)?;
+    let mut bytes = zeros(file.metadata()?.len().min(most) as usize);
+    let mut filled = 0;
+    for piece in bytes.chunks_mut(STEP) {
+        // A file that has become shorter, or that is not read from any place, is
+        // read below.
+        if read_bytes(&file, filled, piece).is_err() {
+            break;
+        }
+        filled += piece.len() as u64;
+        read(piece.len() as u64);
+    }
+    bytes.truncate(filled as usize);
+    if filled > 0 {
+        file.seek(SeekFrom::Start(filled))?;
+    }
+    let mut rest = file.take(most - filled);
     loop {
-        let more = rest.by_ref().take(STEP).read_to_end(&mut bytes)? as u64;
+        let more = rest.by_ref().take(STEP as u64).read_to_end(&mut bytes)? as u64;
         if more == 0 {
             return Ok(bytes);
         }
@@ -178,5 +195,30 @@ impl<'a> Iterator for Lines<'a> {
         let (text, rest) = self.0.split_at(end);
         self.0 = &rest[2..];
         Some(Line { text, ended: true })
+    }
+}
+
+#[cfg(test)]
+mod tests {
+    use super::*;
+
+    #[test]
+    fn files_are_read_up_to_so_many_bytes() {
+        let path = std::env::temp_dir().join(format!("calyxcabin-read-{}", std::process::id()));
+        let bytes: Vec<u8> = (0..9_000_007u32).map(|place| (place ^ place >> 8) as u8).collect();
+        for length in [0, 1, 4 << 20, bytes.len()] {
+            fs::write(&path, &bytes[..length]).unwrap();
+            for most in [0, 1, length / 2, length, length + 1, usize::MAX] {
+                let mut told = 0;
+                let read = read_up_to(&path, most as u64, |more| told += more).unwrap();
+                assert!(read == bytes[..length.min(most)] && told == read.len() as u64);
+            }
+        }
+        fs::remove_file(&path).unwrap();
+        assert!(read_up_to(&path, 1, |_| ()).is_err());
+        assert!(read_up_to(&std::env::temp_dir(), 1, |_| ()).is_err());
+        // It does not tell its length.
+        let told = Path::new("/proc/self/maps");
+        assert!(!told.exists() || read_up_to(told, u64::MAX, |_| ()).unwrap().len() > 1);
     }
 }

@@ -12,6 +12,7 @@ mod disk;
 mod explain;
 mod files;
 mod loading;
+mod memory;
 mod names;
 mod progress;
 mod records;

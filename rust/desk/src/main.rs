@@ -1,7 +1,7 @@
 use std::process::ExitCode;
 use std::thread;
 
-/// The proved functions keep their indexes on the stack: a load some 1.2 MB.
+/// The proved functions keep their indexes on the stack: a load some 1.5 MB.
 const STACK: usize = 16 << 20;
 
 const FILE_TOO_LARGE: i32 = 25; // SIGXFSZ of Linux

@@ -7,12 +7,12 @@ use crate::names::{Names, Operators};
 use crate::records::unpack;
 use crate::speech::{counted, Colour};
 use crate::store::Store;
-use crate::tables::{stop_of, Tables};
+use crate::tables::{stop_of, Service, Tables};
 use crate::trouble::Trouble;
 
 /// A service as it stands; `runs` says of each record of validity whether it
 /// runs on the date that was asked for.
-pub fn service(store: &Store, number: u64, runs: &[bool]) -> Result<answers::Service, Trouble> {
+pub fn service(store: &Store, held: Service, runs: &[bool]) -> Result<answers::Service, Trouble> {
     let (names, operators) = (Names::of(store)?, Operators::of(store)?);
     let tables = &store.tables;
     let validity = tables.validity();
@@ -20,7 +20,7 @@ pub fn service(store: &Store, number: u64, runs: &[bool]) -> Result<answers::Ser
         .zip(dates::count(validity.first))
         .map_or(0, |(last, first)| (last - first + 1) as usize);
     let mut shown = answers::Service {
-        service: number,
+        service: held.number(),
         numbers: Vec::new(),
         validities: Vec::new(),
         modes: Vec::new(),
@@ -28,7 +28,7 @@ pub fn service(store: &Store, number: u64, runs: &[bool]) -> Result<answers::Ser
         stops: Vec::new(),
     };
     let mut stops = 0;
-    for row in tables.service(number).into_iter().flat_map(|service| service.rows()) {
+    for row in held.rows() {
         match row[0] as u8 {
             b'%' => shown.numbers.push(answers::Number {
                 company: row[1],

@@ -196,41 +196,60 @@ impl Store {
         progress: &Progress,
         question: impl Fn(&Tables) -> Result<T, Refusal> + Sync,
     ) -> Result<Result<T, Refusal>, Trouble> {
-        let answer = match self.to_be_summed {
-            None => question(&self.tables),
-            // The question is safe for any tables: both are done at once.
-            Some(sum) => {
-                let tables = &self.tables;
-                let (answer, right) = thread::scope(|scope| {
-                    let summing = scope.spawn(|| tables_file::sum(tables) == sum);
-                    (question(tables), summing.join().unwrap_or(false))
-                });
-                if !right {
-                    self.remake("The store's tables are damaged", progress)?;
-                    return self.ask(progress, question);
-                }
-                self.to_be_summed = None;
-                answer
-            }
-        };
-        match answer {
-            Err(NOT_SOUND) => {
-                self.remake("The store's tables are not sound", progress)?;
-                Ok(question(&self.tables))
-            }
-            answer => Ok(answer),
-        }
+        Ok(self.ask_beside(progress, question, |_| ())?.0)
     }
 
-    /// Tables that were found sound, to be shown.
-    pub fn sound(&mut self, progress: &Progress) -> Result<&Tables, Trouble> {
+    /// The same, and what is shown beside the answer, which is looked up in the
+    /// same tables meanwhile.
+    pub fn ask_beside<T: Send, S: Send>(
+        &mut self,
+        progress: &Progress,
+        question: impl Fn(&Tables) -> Result<T, Refusal> + Sync,
+        shown: impl Fn(&Tables) -> S + Sync,
+    ) -> Result<(Result<T, Refusal>, S), Trouble> {
+        let tables = &self.tables;
+        let answered = match self.to_be_summed {
+            None => (question(tables), shown(tables)),
+            // The question and what is shown are safe for any tables: all is done
+            // at once, and counts where the tables are found to be right.
+            Some(sum) => {
+                let (answer, beside) = thread::scope(|scope| {
+                    let summing = scope.spawn(|| (tables_file::sum(tables) == sum).then(|| shown(tables)));
+                    (question(tables), summing.join().unwrap_or(None))
+                });
+                let Some(beside) = beside else {
+                    self.remake("The store's tables are damaged", progress)?;
+                    return self.ask_beside(progress, question, shown);
+                };
+                self.to_be_summed = None;
+                (answer, beside)
+            }
+        };
+        if let (Err(NOT_SOUND), _) = answered {
+            self.remake("The store's tables are not sound", progress)?;
+            return Ok((question(&self.tables), shown(&self.tables)));
+        }
+        Ok(answered)
+    }
+
+    /// Finds the tables sound, made again where need be.
+    pub fn sound(&mut self, progress: &Progress) -> Result<(), Trouble> {
+        self.sound_beside(progress, |_| ())
+    }
+
+    /// What is shown of tables that are found sound.
+    pub fn sound_beside<S: Send>(
+        &mut self,
+        progress: &Progress,
+        shown: impl Fn(&Tables) -> S + Sync,
+    ) -> Result<S, Trouble> {
         let sound = |tables: &Tables| match proved::is_sound(tables.lent()) {
             true => Ok(()),
             false => Err(NOT_SOUND),
         };
-        match self.ask(progress, sound)? {
-            Ok(()) => Ok(&self.tables),
-            Err(_) => Err(self.refused("its tables are not sound, also after they were made again")),
+        match self.ask_beside(progress, sound, shown)? {
+            (Ok(()), shown) => Ok(shown),
+            (Err(_), _) => Err(self.refused("its tables are not sound, also after they were made again")),
         }
     }
 

@@ -1,5 +1,6 @@
 //! The eleven tables of a loaded delivery, and what is shown of their rows
-//! (docs/TABLES.md). Rows are looked at only in tables that were found sound.
+//! (docs/TABLES.md). Rows may be looked at in any tables; what was found there is
+//! shown where the tables are found sound.
 
 use std::ops::{Deref, DerefMut};
 
@@ -7,6 +8,7 @@ use memmap2::MmapMut;
 
 use crate::files::place::*;
 use crate::files::FILES;
+use crate::memory::zeros;
 
 /// The words of a row, by file.
 pub const WIDTHS: [usize; FILES] = [6, 6, 6, 6, 6, 6, 14, 7, 6, 14, 7];
@@ -99,7 +101,7 @@ pub struct Service<'a> {
 
 impl Tables {
     pub fn empty(lengths: &[usize; FILES]) -> Tables {
-        Tables(lengths.map(|length| Words::Own(vec![0; length])))
+        Tables(lengths.map(|length| Words::Own(zeros(length))))
     }
 
     pub fn lent(&self) -> [&[u64]; FILES] {
@@ -145,6 +147,11 @@ impl Tables {
         self.services().find(|service| service.number() == number)
     }
 
+    /// A service's stop.
+    pub fn stop(&self, service: u64, stop: u64) -> Option<Stop> {
+        self.service(service)?.stop(stop)
+    }
+
     pub fn station(&self, code: u64) -> Option<Station> {
         self.stations().find(|station| station.code == code)
     }
@@ -187,6 +194,15 @@ impl Tables {
 }
 
 impl<'a> Service<'a> {
+    /// Of a copy of its words, of which there is a row at least.
+    pub fn of(words: &'a [u64]) -> Service<'a> {
+        Service { rows: words }
+    }
+
+    pub fn words(&self) -> &'a [u64] {
+        self.rows
+    }
+
     pub fn number(&self) -> u64 {
         self.rows[1]
     }

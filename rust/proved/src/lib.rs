@@ -73,8 +73,8 @@ const UNANSWERED: u64 = u64::MAX;
 
 /// Loads a delivery into eleven tables. Files and tables stand in reading
 /// order; an absent file is empty. A refused load leaves every table zero.
-/// Linked into this program it needs some 1.2 MB of the thread's stack, as
-/// reckoned from its arrays.
+/// Linked into this program it needs up to 1.5 MB of the thread's stack
+/// (`tools/measure-stack`).
 pub fn load(files: [&[u8]; FILES], tables: [&mut [u64]; FILES]) -> Answer {
     let mut words: Words = [UNANSWERED; 6];
     archive::load(files, tables, &mut words);

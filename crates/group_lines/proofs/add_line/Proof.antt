@@ -7,14 +7,14 @@ use Rattle.group_lines.proofs.add_line.Statement.{statement}
 use Rattle.group_lines.proofs.add_line.Tie as tie
 
 abbrev start : tie.After-row-width → tie.Start
-start c = c .before .before .before .before .before .before .before .before .before
+start c = c .before .before .before .before .before .before .before .before .before .before
 
 slice-aggregate-add-row : tie.Need-slice-aggregate-add-row
 slice-aggregate-add-row c = sym (length-take-le _ _ (omega (arith, c .before .before .row-width .ensures .few)))
 
 add-row-requires : tie.Need-add-row-requires
 add-row-requires c κs =
-    let w = c .before .before in
+    let w = c .before .before .before in
     (start w .pre, length-take-le _ _ (omega (arith, w .row-width .ensures .few)) ∙ w .row-width .ensures .is)
 
 pub add-line-spec : {M : Type 1} → statement M
@@ -25,5 +25,6 @@ add-line-spec =
     (λ c. search needs)
     slice-aggregate-add-row
     add-row-requires
+    (λ c. search needs)
     (λ c. search needs)
     (λ c. search needs))

@@ -13,14 +13,14 @@ returns : tie.Need-returns
 returns c =
     let s = c .before .before .before .before in
     let a = s .args in
-    searched (a .file) (a .t .now) (a .i) (a .key) (a .places .now) (s .pre .0) (s .pre .1 .1) _ (c .names-among .ensures)
+    searched (a .file) (a .t .now) (a .run) (a .i) (a .key) (a .places .now) (s .pre .0) (s .pre .1 .1) _ (c .is-new-key .ensures)
     (λ n l w. absurd (omega (arith, c .before .if1 .taken)))
 
 returns-2 : tie.Need-returns-2
 returns-2 c =
     let s = c .before .before .before .before .before in
     let a = s .args in
-    searched (a .file) (a .t .now) (a .i) (a .key) (a .places .now) (s .pre .0) (s .pre .1 .1) _ (c .names-among2 .ensures)
+    searched (a .file) (a .t .now) (a .run) (a .i) (a .key) (a .places .now) (s .pre .0) (s .pre .1 .1) _ (c .is-new-key2 .ensures)
     (λ n l w. absurd (omega (arith, c .before .if2 .taken)))
 
 -- the slot that was met is there
@@ -39,7 +39,7 @@ returns-3 c =
     let p = c .before .before .before in
     let s = p .before .before .before .before .before .before in
     let a = s .args in
-    put-free (a .file) (a .t .now) (a .i) (a .key) (a .places .now) (s .pre .0) (s .pre .1 .1) (p .before .before .if2 .left)
+    put-free (a .file) (a .t .now) (a .run) (a .i) (a .key) (a .places .now) (s .pre .0) (s .pre .1 .1) (p .before .before .if2 .left)
     (p .before .before .before .if1 .left) _ (p .probe .ensures .free _ (c .before .at .given .1))
 
 returns-4 : tie.Need-returns-4
@@ -47,15 +47,15 @@ returns-4 c =
     let p = c .before .before in
     let s = p .before .before .before .before .before .before in
     let a = s .args in
-    put-taken (a .file) (a .t .now) (a .i) (a .key) (a .places .now) (s .pre .0) (s .pre .1 .1) (p .probe .ensures .taken (c .enum-told .given .1))
+    put-taken (a .file) (a .t .now) (a .run) (a .i) (a .key) (a .places .now) (s .pre .0) (s .pre .1 .1) (p .probe .ensures .taken (c .enum-told .given .1))
 
 returns-5 : tie.Need-returns-5
 returns-5 c =
     let p = c .before .before .before in
     let s = p .before .before .before .before .before .before in
     let a = s .args in
-    searched-full (a .file) (a .t .now) (a .i) (a .key) (a .places .now) (s .pre .0) (s .pre .1 .1) (p .before .before .if2 .left)
-    (p .before .before .before .if1 .left) _ (c .names-among3 .ensures) (p .probe .ensures .full (c .before .enum-told2 .given .1))
+    searched-full (a .file) (a .t .now) (a .run) (a .i) (a .key) (a .places .now) (s .pre .0) (s .pre .1 .1) (p .before .before .if2 .left)
+    (p .before .before .before .if1 .left) _ (c .is-new-key3 .ensures) (p .probe .ensures .full (c .before .enum-told2 .given .1))
 
 pub put-key-spec : {M : Type 1} → statement M
 put-key-spec =

@@ -71,11 +71,8 @@ changes-of-xfootnote c = c .before .before .before .before .before .before .befo
 abbrev xfootnote-of-xchanges : tie.After-read-group-file5 → tie.After-read-group-file4
 xfootnote-of-xchanges c = c .before .before .before .before .before .before .before .before .before
 
-abbrev xchanges-of-counted : tie.After-count-services → tie.After-read-group-file5
-xchanges-of-counted c = c .before .before .before .before
-
-abbrev counted-of-settled : tie.After-settle → tie.After-count-services
-counted-of-settled c = c .before .before .before .before .before .before .before .before .before .before .before .before
+abbrev xchanges-of-settled : tie.After-settle → tie.After-read-group-file5
+xchanges-of-settled c = c .before .before .before .before .before .before .before .before .before .before .before .before .before .before
 
 abbrev settled-of-answered : tie.After-answer-of → tie.After-settle
 settled-of-answered c =
@@ -86,11 +83,8 @@ settled-of-answered c =
 abbrev at-settled : tie.After-answer-of → tie.After-settle
 at-settled c = settled-of-answered c
 
-abbrev at-counted : tie.After-answer-of → tie.After-count-services
-at-counted c = counted-of-settled (at-settled c)
-
 abbrev at-xchanges : tie.After-answer-of → tie.After-read-group-file5
-at-xchanges c = xchanges-of-counted (at-counted c)
+at-xchanges c = xchanges-of-settled (at-settled c)
 
 abbrev at-xfootnote : tie.After-answer-of → tie.After-read-group-file4
 at-xfootnote c = xfootnote-of-xchanges (at-xchanges c)
@@ -218,8 +212,8 @@ fit-footnote c g = fit-stations (stations-of-footnote c) (groups-back (c .read-g
 abbrev start-timetbls : tie.After-read-timetbls → tie.Start
 start-timetbls c = start-footnote (footnote-of-timetbls c)
 
-fit-timetbls : (c : tie.After-read-timetbls) → fine (c .read-timetbls .result) ≡ true → Fits (start-timetbls c)
-fit-timetbls c g = fit-footnote (footnote-of-timetbls c) (blocks-back (c .read-timetbls .ensures) g)
+fit-timetbls : (c : tie.After-read-timetbls) → fine (c .read-timetbls .result .verdict) ≡ true → Fits (start-timetbls c)
+fit-timetbls c g = fit-footnote (footnote-of-timetbls c) (blocks-back (c .read-timetbls .ensures .file) g)
 
 abbrev start-changes : tie.After-read-group-file3 → tie.Start
 start-changes c = start-timetbls (timetbls-of-changes c)
@@ -328,7 +322,7 @@ same-length-7 c =
 
 same-length-8 : tie.Need-same-length-8
 same-length-8 c =
-    at-settled c .settle .kept .1 .1 .1 .1 .1 .1 .1 .1 .0 ∙ at-timetbls c .read-timetbls .ensures .kept
+    at-settled c .settle .kept .1 .1 .1 .1 .1 .1 .1 .1 .0 ∙ at-timetbls c .read-timetbls .ensures .file .kept
     ∙ at-cleared c .clear-all .kept .1 .1 .1 .1 .1 .1 .1 .0
 
 same-length-9 : tie.Need-same-length-9
@@ -349,7 +343,7 @@ same-length-11 c =
 returns : tie.Need-returns
 returns c =
     loaded (files (at-start c)) (lent (at-start c)) (eleven _ _ _ _ _ _ _ _ _ _ _) (eleven _ _ _ _ _ _ _ _ _ _ _) (eleven _ _ _ _ _ _ _ _ _ _ _)
-    _ _ _ _ _ _ _ _ _ _ _ _ _ _ _ _ _
+    _ _ _ _ _ _ _ _ _ _ _ _ _ _ _ _ _ _
     (record {
       sizes = at-sizes c .sizes .ensures;
       cleared = at-cleared c .clear-all .ensures;
@@ -363,11 +357,11 @@ returns c =
       timezone = at-timezone c .read-group-file .ensures;
       stations = at-stations c .read-row-file4 .ensures;
       footnote = at-footnote c .read-group-file2 .ensures;
-      timetbls = at-timetbls c .read-timetbls .ensures;
+      timetbls = at-timetbls c .read-timetbls .ensures .file;
       changes = at-changes c .read-group-file3 .ensures;
       xfootnote = at-xfootnote c .read-group-file4 .ensures;
       xchanges = at-xchanges c .read-group-file5 .ensures;
-      counted = at-counted c .count-services .ensures;
+      counted = at-timetbls c .read-timetbls .ensures .counted;
       settles = at-settled c .settle .ensures;
       answers = c .answer-of .ensures;
     })
@@ -392,7 +386,6 @@ load-spec =
     read-group-file-requires-3
     read-group-file-requires-4
     read-group-file-requires-5
-    (λ c κs. search needs)
     (λ c κs. search needs)
     (λ c κs. search needs)
     same-length

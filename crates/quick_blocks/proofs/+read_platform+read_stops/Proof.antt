@@ -16,6 +16,7 @@ use Rattle.quick_blocks.proofs.read_stops.Reads as read-stops
 use Rattle.quick_blocks.proofs.read_stops.Kinds as read-stops-kinds
 use Rattle.quick_blocks.proofs.+read_platform+read_stops.Lts-read_stops as read-stops-lts
 use Rattle.quick_steps.proofs.put_line.Reads as put-line-reads
+use Rattle.quick_steps.proofs.put_platform.Reads as put-platform-reads
 use Rattle.quick_blocks.proofs.+read_platform+read_stops.{statement}
 use Rattle.quick_blocks.proofs.+read_platform+read_stops.Tie.{close}
 
@@ -38,7 +39,7 @@ abbrev read-stops-below : ℕ → In 7 read-stops-kinds.ps
 read-stops-below t = and 7 read-stops-kinds.ps (falls 7 read-stops-kinds.ps _<_ μ-read-stops t) read-stops.Pre
 
 abbrev of-read-platform : ℕ → read-platform-lts.Claims
-of-read-platform t = (put-line-reads.Asked, put-line-reads.Learnt, read-stops-below t, read-stops.Post)
+of-read-platform t = (put-platform-reads.Asked, put-platform-reads.Learnt, read-stops-below t, read-stops.Post)
 
 abbrev of-read-stops : ℕ → read-stops-lts.Claims
 of-read-stops t = (read-platform-below t, read-platform.Post, put-line-reads.Asked, put-line-reads.Learnt)
@@ -68,19 +69,19 @@ pub +read-platform+read-stops-spec : {M : Type 1} → statement M
     let h = s .pre .1 .0 in
     let x = driving-start (a .form) (keysFrom (a .form) (a .counts) (a .companies .now) (a .modes .now) (a .stations .now) (a .footnotes .now)) _
     (a .n) (a .k) _ _ _ _ _ d in
-    let p = y .put-line .ensures .stepped _ _ (c .before .before .next .given .1) in (
+    let p = y .put-platform .ensures .stepped _ _ (c .before .before .next .given .1) in (
       omega (arith, s .pre .0, h, goes-further _ _ _ _ _ _ _ _ _ _ d _ _ _ _ x _ _ _ h p, p .line, p .nexts),
       drivable _ _ _ _ _ _ _ _ _ _ d _ _ _ _ (driving-next _ _ _ _ _ _ _ _ _ _ d _ _ _ _ x _ _ _ h p),
     ))
-    (λ c. c .before .before .before .before .put-line .kept .1 .1 .1 .1 .1 .1 .1 .1 .0)
+    (λ c. c .before .before .before .before .put-platform .kept .1 .1 .1 .1 .1 .1 .1 .1 .0)
     (λ c. let y = c .before .before .before .before in
     let s = y .before .before .before .before .before .before .before .before .before .before in
     let a = s .args in
     let d = s .pre .1 .1 in
     let x = driving-start (a .form) (keysFrom (a .form) (a .counts) (a .companies .now) (a .modes .now) (a .stations .now) (a .footnotes .now)) _
     (a .n) (a .k) _ _ _ _ _ d in
-    drove-stuck _ _ _ _ _ _ _ _ _ _ d _ _ _ _ x _ (y .put-line .ensures .kept (c .enum-told .given .1)))
-    (λ c. c .before .before .read-stops .kept .1 .1 .1 .1 .1 .1 .1 .0 ∙ c .before .before .before .before .before .before .before .before .before .put-line .kept .1 .1 .1 .1 .1 .1 .1 .1 .0)
+    drove-stuck _ _ _ _ _ _ _ _ _ _ d _ _ _ _ x _ (y .put-platform .ensures .kept (c .enum-told .given .1)))
+    (λ c. c .before .before .read-stops .kept .1 .1 .1 .1 .1 .1 .1 .0 ∙ c .before .before .before .before .before .before .before .before .before .put-platform .kept .1 .1 .1 .1 .1 .1 .1 .1 .0)
     (λ c. let y = c .before .before .before .before .before .before .before .before .before in
     let s = y .before .before .before .before .before .before .before .before .before .before in
     let a = s .args in
@@ -88,7 +89,7 @@ pub +read-platform+read-stops-spec : {M : Type 1} → statement M
     let h = s .pre .1 .0 in
     let x = driving-start (a .form) (keysFrom (a .form) (a .counts) (a .companies .now) (a .modes .now) (a .stations .now) (a .footnotes .now)) _
     (a .n) (a .k) _ _ _ _ _ d in
-    let p = y .put-line .ensures .stepped _ _ (c .before .before .before .before .before .next .given .1) in
+    let p = y .put-platform .ensures .stepped _ _ (c .before .before .before .before .before .next .given .1) in
     drove-on _ _ _ _ _ _ _ _ _ _ d _ _ _ _ (driving-next _ _ _ _ _ _ _ _ _ _ d _ _ _ _ x _ _ _ h p) _ _ (c .before .before .read-stops .ensures)))
     λ t. read-stops-lts.spec (of-read-stops t)
     (read-stops-at t)

@@ -10,7 +10,7 @@ use Rattle.quick_blocks.proofs.put_block.Tie as tie
 
 -- the place before the first call, from the one after the lines
 abbrev start : tie.After-read-stops → tie.Start
-start y = y .before .before .before .before .before .before .before .before .before .before .before
+start y = y .before .before .before .before .before .before .before .before .before .before
 
 is-whole-requires : tie.Need-is-whole-requires
 is-whole-requires c κs =
@@ -45,15 +45,14 @@ returns-4 c =
     whole-put (a .form) (a .block .now) (a .fresh) (a .counts) (a .companies .now) (a .modes .now) (a .stations .now) (a .footnotes .now)
     (a .t .now) _ (a .row) (s .pre .0) _ _ _ (y .read-stops .ensures) _ _ (c .before .before .before .before .lines .given .1)
     (y .read-stops .kept .1 .1 .1 .1 .1 .1 .1 .0) (s .pre .1) (c .before .is-whole .ensures (not-false _ (c .if2 .left)))
-    (not-false _ (y .before .before .before .if1 .left))
+    (not-false _ (y .before .before .if1 .left))
 
 pub put-block-spec : {M : Type 1} → statement M
 put-block-spec =
     tie.close
     (tie.spec
     (λ c. left-kept _ _ _ _ _ _ _ _ _ _ _ refl)
-    (λ c κs. search needs)
-    (λ c κs. let s = c .before .before .before .before .before .before .before .before .before .before in
+    (λ c κs. let s = c .before .before .before .before .before .before .before .before .before in
     whole-drivable _ (s .pre .0) _ _ (s .pre .1))
     (λ c. search needs)
     (λ c. search needs)

@@ -1,27 +1,42 @@
--- `quick_records::attribute` meets its contract: the law of its fields. Assumes nothing.
-use mathlib.Core.Path.{refl, sym, _∙_}
+-- `quick_records::attribute` meets its contract: the law of its fields, and what it names was found. Assumes nothing.
+use mathlib.Core.Path.{refl, ap, sym, _∙_}
 use native.Mathlib.Omega.{arith}
 use borrow.Author.Needs.{needs}
 use borrow.Author.Tests.{not-false}
 use Rattle.iff.specs.Columns.{pictureFrom}
+use Rattle.iff.specs.declared.GroupFile.the-variants.{Footnote}
+use Rattle.iff.specs.declared.File.the-variants.{Groups}
+use Rattle.tables.proofs.First.{found}
 use Rattle.quick_lines.specs.Pictures.{Pictured}
-use Rattle.quick_records.proofs.FieldLaws.{nothing, attribute-told}
+use Rattle.quick_records.proofs.FieldLaws.{nothing, there, attribute-told}
 use Rattle.quick_records.proofs.attribute.Statement.{statement}
 use Rattle.quick_records.proofs.attribute.Tie as tie
 
 part-line-end : tie.Need-part-line-end
 part-line-end c =
-    let a = c .before .before .before .before .args in
+    let a = c .before .before .before .before .before .before .args in
     let p : Pictured (a .text .now) (a .at) _ = c .before .looks .ensures (not-false _ (c .if1 .left)) in
     omega (arith, p .room)
 
-returns-3 : tie.Need-returns-3
+returns-4 : tie.Need-returns-4
 unfolding pictureFrom
-returns-3 c h =
-    let a = c .before .before .before .before .before .before .before .before .before .before .before .before .before .before .before .before .args in
-    attribute-told (a .text .now) (a .at) _ (a .n) refl (c .before .before .before .before .before .before .before .before .before .before .before .before .before .looks .ensures (not-false _ (c .before .before .before .before .before .before .before .before .before .before .before .before .if1 .left)))
-    (sym (c .before .before .before .before .before .before .before .before .before .all-blank .ensures) ∙ c .before .before .before .before .before .before .before .before .if2 .left)
-    _ _ _ _ (c .before .before .before .before .before .before .code .ensures) (c .before .before .before .before .stop-word .ensures) (c .before .before .stop-word2 .ensures) (c .number .ensures)
+returns-4 c h =
+    let hit = c .before .before in
+    let number = hit .before in
+    let last = number .before .before in
+    let first = last .before .before in
+    let code = first .before .before in
+    let blank = code .before .before in
+    let seen = blank .before .before .before .before in
+    let a = seen .before .before .before .before .before .before .args in
+    record {
+      told =
+          attribute-told (a .text .now) (a .at) _ (a .n) refl (seen .before .looks .ensures (not-false _ (seen .if1 .left)))
+          (sym (blank .before .all-blank .ensures) ∙ blank .if2 .left)
+          _ _ _ _ (code .code .ensures) (first .stop-word .ensures) (last .stop-word2 .ensures) (number .number .ensures);
+      timed = refl;
+      met = there (Groups Footnote) (a .used) (a .footnotes .now) (number .number .result) _ (hit .found-by-place .ensures) (ap found (c .enum-told .given .1));
+    }
 
 pub attribute-spec : {M : Type 1} → statement M
 attribute-spec =
@@ -57,4 +72,9 @@ attribute-spec =
     (λ c. search needs)
     (λ c. search needs)
     (λ c κs. search needs)
-    returns-3)
+    (λ c κs. search needs)
+    (λ c. search needs)
+    (λ c. search needs)
+    (λ c κs. search needs)
+    (λ c h. nothing _ (c .untold3 .ensures) h)
+    returns-4)

@@ -1,33 +1,25 @@
 -- `quick_steps::put_line` meets its contract: a line that passes leads on, and its row is the block's. Assumes nothing.
-use mathlib.Core.Path.{refl, sym, _∙_}
+use mathlib.Core.Path.{refl}
 use native.Mathlib.Omega.{arith}
 use borrow.Author.Needs.{needs}
-use Rattle.quick_steps.proofs.LineLaws.{positive, unsure, turned}
+use Rattle.quick_steps.proofs.LineLaws.{unsure, told-turn}
 use Rattle.quick_steps.proofs.put_line.Statement.{statement}
 use Rattle.quick_steps.proofs.put_line.Tie as tie
 
-add-next : tie.Need-add-next
-add-next c =
-    let p = c .before .before .before .before .before .before .before .before .tested-words .ensures
-    (positive _ (c .before .before .before .before .before .before .if1 .left)) in
-    omega (arith, p .seen .room, c .before .before .before .before .before .before .before .before .before .before .before .before .before .before .before .before .before .before .before .before .good)
+put-words-requires : tie.Need-put-words-requires
+put-words-requires c κs =
+    let y = c .before .before .before .before .before .before .before .before .before .before .before .before .before in
+    (λ some. omega (arith, c .before .tested-words .ensures some .seen .room, y .good), y .pre .2, y .pre .3)
 
-add-next-2 : tie.Need-add-next-2
-add-next-2 c =
-    let p = c .before .before .before .before .before .before .before .before .tested-words .ensures
-    (positive _ (c .before .before .before .before .before .before .if1 .left)) in
-    omega (arith, p .seen .room, c .before .before .before .before .before .before .before .before .before .before .before .before .before .before .before .before .before .before .before .before .good)
-
-returns-3 : tie.Need-returns-3
-returns-3 c =
-    let y = c .before .before .before .before .before .before .before .before .before in
-    let some = positive _ (c .before .before .before .before .before .before .before .if1 .left) in
-    let a = c .before .before .before .before .before .before .before .before .before .before .before .before .before .before .before .before .before
-    .before .before .before .before .args in
-    turned (a .form) (a .counts) (a .companies .now) (a .modes .now) (a .stations .now) (a .footnotes .now) (a .block .now) (a .at) (a .st)
-    (a .n) (a .k) (a .number) (a .t .now) _ (a .i) (a .letter) _ some (y .tested-words .ensures some)
-    _ (sym (y .before .before .before .before .goes .ensures) ∙ y .before .before .to .given .1) _ (c .stop-for .ensures .0)
-    (c .before .before .before .before .put-row .ensures)
+returns-2 : tie.Need-returns-2
+returns-2 c =
+    let words = c .before .before .before .before in
+    let to = words .before .before in
+    let on = to .before .before in
+    let a = on .before .before .before .before .before .before .before .before .args in
+    told-turn (a .form) (a .counts) (a .companies .now) (a .modes .now) (a .stations .now) (a .footnotes .now) (a .block .now) (a .at) (a .st)
+    (a .n) (a .k) (a .number) (a .t .now) _ (a .i) (a .letter) _ (words .tested-words .ensures) _ (on .goes-on .ensures _ (to .to .given .1))
+    _ (c .before .before .put-words .ensures)
 
 pub put-line-spec : {M : Type 1} → statement M
 put-line-spec =
@@ -36,14 +28,8 @@ put-line-spec =
     (λ c κs. search needs)
     (λ c. search needs)
     (λ c. search needs)
-    (λ c κs. search needs)
     (λ c. unsure _ _ _ _ _ _ _ _ _ _ _ _ _ _ _ refl)
-    (λ c. search needs)
     (λ c κs. search needs)
-    add-next
-    add-next-2
-    (λ c κs. search needs)
-    (λ c. omega (arith, c .before .before .before .before .before .before .before .before .before .before .before .before .before .before .before .before .before .before .before .before .before .pre .2, c .stop-for .ensures .1))
-    (λ c. unsure _ _ _ _ _ _ _ _ _ _ _ _ _ _ _ refl)
+    put-words-requires
     (λ c. search needs)
-    returns-3)
+    returns-2)

@@ -6,20 +6,19 @@ use Rattle.references.proofs.count_for_groups.Statement.{statement}
 use Rattle.references.proofs.count_for_groups.Tie as tie
 
 returns : tie.Need-returns
-returns c k a =
+returns c k se a =
     record {
-      companies = a .companies ∙ sym (keys-counted _ _ _ (c .before .before .before .before .used-rows .ensures));
-      modes = a .modes ∙ sym (keys-counted _ _ _ (c .before .before .before .used-rows2 .ensures));
-      stations = a .stations ∙ sym (keys-counted _ _ _ (c .before .before .used-rows3 .ensures));
-      services = a .services ∙ sym (keys-counted _ _ _ (c .before .used-rows4 .ensures));
-      xfootnotes = a .xfootnotes ∙ sym (keys-counted _ _ _ (c .used-rows5 .ensures));
+      companies = a .companies ∙ sym (keys-counted _ _ _ (c .before .before .before .used-rows .ensures));
+      modes = a .modes ∙ sym (keys-counted _ _ _ (c .before .before .used-rows2 .ensures));
+      stations = a .stations ∙ sym (keys-counted _ _ _ (c .before .used-rows3 .ensures));
+      services = a .services;
+      xfootnotes = a .xfootnotes ∙ sym (keys-counted _ _ _ (c .used-rows4 .ensures));
     }
 
 pub count-for-groups-spec : {M : Type 1} → statement M
 count-for-groups-spec =
     tie.close
     (tie.spec
-    (λ c κs. search needs)
     (λ c κs. search needs)
     (λ c κs. search needs)
     (λ c κs. search needs)

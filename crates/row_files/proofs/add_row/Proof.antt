@@ -10,7 +10,7 @@ use Rattle.row_files.proofs.add_row.Tie as tie
 
 -- THE PLACES: the start, from the record's kind, and that from the line that was read
 abbrev start : tie.After-row-record → tie.Start
-start c = c .before .before .before .before .before .before .before
+start c = c .before .before .before .before .before .before .before .before .before
 
 abbrev kind : tie.After-read-line → tie.After-row-record
 kind c = c .before .before
@@ -32,9 +32,10 @@ store-row-requires c κs =
     let r = c .before .before .before .before .before .before in
     let s = begin r in
     let told = c .before .before .enum-told .given .1 in (
-      row-plain (s .args .file) (s .args .form) (s .args .count) (s .args .before .now) (s .args .countries .now) (s .args .zones .now) (line s)
+      row-plain (s .args .file) (s .args .form) (s .args .count) (s .args .before .now) (s .args .counts) (s .args .countries .now)
+          (s .args .zones .now) (line s)
           (s .args .t .now) _ (kind r .row-record .ensures) _ (r .read-line .ensures .test) told (s .args .row .now) _ (s .pre .0)
-          (r .read-line .ensures .row told) _ _ (s .pre .1 .runs),
+          (r .read-line .ensures .row told) _ _ _ (s .pre .1 .runs) (s .pre .1 .marked),
       s .pre .1,
     )
 
@@ -42,7 +43,8 @@ returns : tie.Need-returns
 returns c =
     let r = c .before .before .before .before .before in
     let s = begin r in
-    line-refused (s .args .file) (s .args .form) (s .args .count) (s .args .before .now) (s .args .countries .now) (s .args .zones .now) (line s)
+    line-refused (s .args .file) (s .args .form) (s .args .count) (s .args .before .now) (s .args .counts) (s .args .countries .now)
+    (s .args .zones .now) (line s)
     (s .args .t .now) _ (kind r .row-record .ensures) _ _ (r .read-line .ensures .test) (c .before .r .given .1)
 
 -- the line that was read before its row was stored
@@ -54,7 +56,8 @@ returns-2 c =
     let r = stored (c .before .before) in
     let s = begin r in
     let told = c .before .before .before .before .before .enum-told .given .1 in
-    line-added (s .args .file) (s .args .form) (s .args .count) (s .args .before .now) (s .args .countries .now) (s .args .zones .now) (line s)
+    line-added (s .args .file) (s .args .form) (s .args .count) (s .args .before .now) (s .args .counts) (s .args .countries .now)
+    (s .args .zones .now) (line s)
     (s .args .t .now) _ (kind r .row-record .ensures) _ (r .read-line .ensures .test) told (s .args .row .now) _ (s .pre .0)
     (r .read-line .ensures .row told) _ _ (c .before .before .store-row .ensures)
 

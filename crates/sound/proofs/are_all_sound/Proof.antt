@@ -1,15 +1,21 @@
--- `sound::are_all_sound` meets its contract: frames, rows, DELIVERY's company. Assumes nothing.
+-- `sound::are_all_sound` meets its contract: frames, TIMETBLS, rows, DELIVERY's company. Assumes nothing.
+use Prim.Native.Nat.{ℕ}
 use mathlib.Core.Path.{_≡_, ap, sym, _∙_}
+use mathlib.Core.List.{List}
 use native.Mathlib.Omega.{arith}
 use borrow.Author.Needs.{needs}
 use borrow.Author.Tests.{not-true, not-false}
 use Rattle.iff.specs.Lists.{has}
-use Rattle.iff.specs.Files.{eleven}
+use Rattle.iff.specs.Files.{PerFile, eleven}
 use Rattle.iff.specs.Words.{ownCompany}
 use Rattle.iff.specs.declared.RowFile.the-variants.{Company}
 use Rattle.iff.specs.declared.File.the-variants.{Rows}
+use Rattle.iff_rules.specs.Rows.{contextOf}
+use Rattle.iff_desk.specs.Sound.{rowsOfTables}
 use Rattle.keys.proofs.Among.{keys-counted}
-use Rattle.sound.proofs.WholeLaws.{form-is, not-framed, not-behind, by-company}
+use Rattle.sound_behind.specs.Behind.{isRight}
+use Rattle.sound.specs.Whole.{timetblsSound}
+use Rattle.sound.proofs.WholeLaws.{form-is, block-keys, timetbls-held, not-framed, not-timetbls, not-behind, by-company}
 use Rattle.sound.proofs.are_all_sound.Statement.{statement}
 use Rattle.sound.proofs.are_all_sound.Tie as tie
 
@@ -20,11 +26,32 @@ start c = c .before .before .before .before .before .before .before .before .bef
 abbrev to-form : tie.After-are-framed → tie.After-form-of
 to-form c = c .before .before
 
-abbrev to-framed : tie.After-are-right-behind → tie.After-are-framed
+abbrev to-framed : tie.After-judge-blocks → tie.After-are-framed
 to-framed c = c .before .before .before .before .before
 
-abbrev framed-if : tie.After-are-right-behind → tie.Else1
+abbrev framed-if : tie.After-judge-blocks → tie.Else1
 framed-if c = c .before .before
+
+abbrev to-blocks : tie.After-are-right-behind → tie.After-judge-blocks
+to-blocks c = c .before .before .before .before .before .before .before
+
+abbrev from-blocks : tie.After-judge-blocks → tie.Start
+from-blocks c = start (to-form (to-framed c))
+
+-- the tables
+abbrev tables : tie.Start → PerFile (List ℕ)
+tables s =
+    let a = s .args in
+    eleven (a .delivery .now) (a .company .now) (a .country .now) (a .trnsmode .now) (a .timezone .now) (a .stations .now) (a .footnote .now) (a .timetbls .now) (a .changes .now) (a .xfootnote .now) (a .xchanges .now)
+
+-- TIMETBLS, as it was told
+timetbls-is : (c : tie.After-judge-blocks)
+    → isRight (c .judge-blocks .result)
+    ≡ timetblsSound (contextOf (rowsOfTables (tables (from-blocks c)))) (to-form (to-framed c) .form-of .result) (from-blocks c .args .first .now)
+    (from-blocks c .args .timetbls .now)
+timetbls-is c =
+    let s = from-blocks c in
+    c .judge-blocks .ensures .says (contextOf (rowsOfTables (tables s))) (block-keys (tables s) (s .args .used) (s .pre .0))
 
 are-framed-requires : tie.Need-are-framed-requires
 are-framed-requires c κs =
@@ -37,42 +64,56 @@ returns c =
     let r = c .before .before .before in
     let f = to-form r in
     let s = start f in
-    let a = s .args in
-    not-framed (eleven (a .delivery .now) (a .company .now) (a .country .now) (a .trnsmode .now) (a .timezone .now) (a .stations .now) (a .footnote .now) (a .timetbls .now) (a .changes .now) (a .xfootnote .now) (a .xchanges .now)) (a .first .now) (s .pre .1) _ (f .form-of .ensures) (s .pre .3)
+    not-framed (tables s) (s .args .first .now) (s .pre .1) _ (f .form-of .ensures) (s .pre .3)
     (sym (r .are-framed .ensures) ∙ not-true _ (c .if1 .taken))
 
-are-right-behind-requires : tie.Need-are-right-behind-requires
-are-right-behind-requires c κs = c .before .before .before .before .before .before .before .before .before .before .before .before .before .before .before .before .before .before .before .before .pre .0
+judge-blocks-requires : tie.Need-judge-blocks-requires
+judge-blocks-requires c κs =
+    let s = start (to-form (c .before .before .before .before)) in
+    (timetbls-held (tables s) (s .pre .3), s .pre .2)
 
 returns-2 : tie.Need-returns-2
 returns-2 c =
-    let b = c .before in
-    let r = to-framed b in
-    let f = to-form r in
+    let b = c .before .before .before .before in
+    let f = to-form (to-framed b) in
     let s = start f in
-    let a = s .args in
-    let T = eleven (a .delivery .now) (a .company .now) (a .country .now) (a .trnsmode .now) (a .timezone .now) (a .stations .now) (a .footnote .now) (a .timetbls .now) (a .changes .now) (a .xfootnote .now) (a .xchanges .now) in
-    not-behind T (a .first .now) (s .pre .1) _ (f .form-of .ensures) (s .pre .3)
-    (sym (r .are-framed .ensures) ∙ not-false _ (framed-if b .if1 .left))
-    (sym (b .are-right-behind .ensures (form-is T (a .first .now) (s .pre .1) _ (f .form-of .ensures) (s .pre .3))) ∙ not-true _ (c .if2 .taken))
+    not-timetbls (tables s) (s .args .first .now) (s .pre .1) _ (f .form-of .ensures) (s .pre .3)
+    (sym (timetbls-is b) ∙ ap isRight (c .enum-told .given .1))
+
+are-right-behind-requires : tie.Need-are-right-behind-requires
+are-right-behind-requires c κs =
+    let b = c .before .before .before .before .before .before in
+    (from-blocks b .pre .0, b .judge-blocks .ensures .rows _ (c .before .before .services .given .1))
 
 returns-3 : tie.Need-returns-3
 returns-3 c =
+    let h = c .before in
+    let f = to-form (to-framed (to-blocks h)) in
+    let s = start f in
+    let a = s .args in
+    not-behind (tables s) (a .first .now) (s .pre .1) _ (f .form-of .ensures) (s .pre .3)
+    (sym (h .are-right-behind .ensures (form-is (tables s) (a .first .now) (s .pre .1) _ (f .form-of .ensures) (s .pre .3)))
+    ∙ not-true _ (c .if2 .taken))
+
+returns-4 : tie.Need-returns-4
+returns-4 c =
     let i = c .before .before .before in
-    let b = i .before in
+    let h = i .before in
+    let b = to-blocks h in
     let r = to-framed b in
     let f = to-form r in
     let s = start f in
     let a = s .args in
-    let T = eleven (a .delivery .now) (a .company .now) (a .country .now) (a .trnsmode .now) (a .timezone .now) (a .stations .now) (a .footnote .now) (a .timetbls .now) (a .changes .now) (a .xfootnote .now) (a .xchanges .now) in
     c .names-at .ensures
     ∙ ap (has (ownCompany (a .first .now))) (keys-counted (Rows Company) (a .company .now) (a .used .company) (s .pre .0 .company))
-    ∙ by-company T (a .first .now) (s .pre .1) _ (f .form-of .ensures) (s .pre .3)
+    ∙ by-company (tables s) (a .first .now) (s .pre .1) _ (f .form-of .ensures) (s .pre .3)
     (sym (r .are-framed .ensures) ∙ not-false _ (framed-if b .if1 .left))
-    (sym (b .are-right-behind .ensures (form-is T (a .first .now) (s .pre .1) _ (f .form-of .ensures) (s .pre .3))) ∙ not-false _ (i .if2 .left))
+    (sym (timetbls-is b) ∙ ap isRight (h .before .before .before .services .given .1))
+    (sym (h .are-right-behind .ensures (form-is (tables s) (a .first .now) (s .pre .1) _ (f .form-of .ensures) (s .pre .3)))
+    ∙ not-false _ (i .if2 .left))
 
 read-own : tie.Need-shared-slice-read-names-at
-read-own c = omega (arith, c .before .before .before .before .before .before .before .before .before .before .before .before .before .before .before .before .before .before .before .before .before .before .before .before .pre .2)
+read-own c = omega (arith, from-blocks (to-blocks (c .before .before .before)) .pre .2)
 
 pub are-all-sound-spec : {M : Type 1} → statement M
 are-all-sound-spec =
@@ -82,10 +123,15 @@ are-all-sound-spec =
     are-framed-requires
     (λ c. search needs)
     returns
-    are-right-behind-requires
+    judge-blocks-requires
+    (λ c. search needs)
+    (λ c. search needs)
     (λ c. search needs)
     returns-2
+    are-right-behind-requires
+    (λ c. search needs)
+    returns-3
     read-own
     (λ c κs. search needs)
     (λ c. search needs)
-    returns-3)
+    returns-4)

@@ -1,4 +1,4 @@
--- `sound::are_framed` meets its contract: eleven frames, one after the other. Assumes nothing.
+-- `sound::are_framed` meets its contract: ten frames, one after the other. Assumes nothing.
 use mathlib.Core.Path.{_≡_, _∙_}
 use borrow.Author.Needs.{needs}
 use Rattle.iff.specs.Files.{of, eleven}
@@ -39,9 +39,6 @@ back-9 c = c .before .before .before .before
 abbrev back-10 : tie.After-is-framed10 → tie.After-is-framed9
 back-10 c = c .before .before .before .before
 
-abbrev back-11 : tie.After-is-framed11 → tie.After-is-framed10
-back-11 c = c .before .before .before .before
-
 requires-1 : tie.Need-is-framed-requires
 requires-1 c κs = let s = c .before .before .before .before .before .before .before .before .before .before .before .before .before .before in (s .pre .0 .delivery, s .pre .1)
 
@@ -64,21 +61,17 @@ requires-7 : tie.Need-is-framed-requires-7
 requires-7 c κs = let s = start (back-2 (back-3 (back-4 (back-5 (back-6 (c .before .before .before)))))) in (s .pre .0 .footnote, s .pre .1)
 
 requires-8 : tie.Need-is-framed-requires-8
-requires-8 c κs = let s = start (back-2 (back-3 (back-4 (back-5 (back-6 (back-7 (c .before .before .before))))))) in (s .pre .0 .timetbls, s .pre .1)
+requires-8 c κs = let s = start (back-2 (back-3 (back-4 (back-5 (back-6 (back-7 (c .before .before .before))))))) in (s .pre .0 .changes, s .pre .1)
 
 requires-9 : tie.Need-is-framed-requires-9
-requires-9 c κs = let s = start (back-2 (back-3 (back-4 (back-5 (back-6 (back-7 (back-8 (c .before .before .before)))))))) in (s .pre .0 .changes, s .pre .1)
+requires-9 c κs = let s = start (back-2 (back-3 (back-4 (back-5 (back-6 (back-7 (back-8 (c .before .before .before)))))))) in (s .pre .0 .xfootnote, s .pre .1)
 
 requires-10 : tie.Need-is-framed-requires-10
-requires-10 c κs = let s = start (back-2 (back-3 (back-4 (back-5 (back-6 (back-7 (back-8 (back-9 (c .before .before .before))))))))) in (s .pre .0 .xfootnote, s .pre .1)
-
-requires-11 : tie.Need-is-framed-requires-11
-requires-11 c κs = let s = start (back-2 (back-3 (back-4 (back-5 (back-6 (back-7 (back-8 (back-9 (back-10 (c .before .before .before)))))))))) in (s .pre .0 .xchanges, s .pre .1)
+requires-10 c κs = let s = start (back-2 (back-3 (back-4 (back-5 (back-6 (back-7 (back-8 (back-9 (c .before .before .before))))))))) in (s .pre .0 .xchanges, s .pre .1)
 
 same-length : tie.Need-same-length
 same-length c =
-    let c11 = c .before .before in
-    let c10 = back-11 c11 in
+    let c10 = c .before .before in
     let c9 = back-10 c10 in
     let c8 = back-9 c9 in
     let c7 = back-8 c8 in
@@ -88,8 +81,7 @@ same-length c =
     let c3 = back-4 c4 in
     let c2 = back-3 c3 in
     let c1 = back-2 c2 in
-    c11 .is-framed11 .kept .1 .1 .1 .1 .1 .1 .0
-    ∙ c10 .is-framed10 .kept .1 .1 .1 .1 .1 .1 .0
+    c10 .is-framed10 .kept .1 .1 .1 .1 .1 .1 .0
     ∙ c9 .is-framed9 .kept .1 .1 .1 .1 .1 .1 .0
     ∙ c8 .is-framed8 .kept .1 .1 .1 .1 .1 .1 .0
     ∙ c7 .is-framed7 .kept .1 .1 .1 .1 .1 .1 .0
@@ -103,8 +95,7 @@ same-length c =
 returns : tie.Need-returns
 unfolding allFramed
 returns c =
-    let c11 = c .before .before in
-    let c10 = back-11 c11 in
+    let c10 = c .before .before in
     let c9 = back-10 c10 in
     let c8 = back-9 c9 in
     let c7 = back-8 c8 in
@@ -116,7 +107,7 @@ returns c =
     let c1 = back-2 c2 in
     let a = start c1 .args in
     let T = eleven (a .delivery .now) (a .company .now) (a .country .now) (a .trnsmode .now) (a .timezone .now) (a .stations .now) (a .footnote .now) (a .timetbls .now) (a .changes .now) (a .xfootnote .now) (a .xchanges .now) in
-    in-order (λ f. framed (a .form) (a .first .now) f (of T f)) _ _ _ _ _ _ _ _ _ _ _
+    in-order (λ f. framed (a .form) (a .first .now) f (of T f)) _ _ _ _ _ _ _ _ _ _
     (c1 .is-framed .ensures)
     (c2 .is-framed2 .ensures)
     (c3 .is-framed3 .ensures)
@@ -127,7 +118,6 @@ returns c =
     (c8 .is-framed8 .ensures)
     (c9 .is-framed9 .ensures)
     (c10 .is-framed10 .ensures)
-    (c11 .is-framed11 .ensures)
 
 pub are-framed-spec : {M : Type 1} → statement M
 are-framed-spec =
@@ -143,6 +133,5 @@ are-framed-spec =
     requires-8
     requires-9
     requires-10
-    requires-11
     same-length
     returns)

@@ -1,75 +1,145 @@
--- `are_blocks_sound` meets its contract: what is left of the blocks is the whole. Assumes nothing.
-use Prim.Native.Nat.{_-_}
+-- `are_blocks_sound` meets its contract: what is left of the blocks is the whole, and the services before them are in the index. Assumes nothing.
+use Prim.Native.Nat.{_-_, _<_}
+use mathlib.Core.Path.{_≡_, refl, ap, sym, _∙_}
+use mathlib.Core.Bool.{true}
 use native.Mathlib.Omega.{arith}
 use borrow.Author.Needs.{needs}
-use Rattle.sound_blocks.proofs.BlockLaws.{Left, stray, starts, ends, unsound-block, goes-on, rises, stays}
+use borrow.Author.Tests.{eq-eqb, ne-eqb}
+use lib.Dec.{eqb}
+use Rattle.iff.specs.Bytes.{hash}
+use Rattle.iff.specs.Tables.{isHashRow, rowAt, rowWidth}
+use Rattle.iff.specs.declared.File.the-variants.{Timetbls}
+use Rattle.tables.proofs.Rows.{row-in-table}
+use Rattle.walks.proofs.TableLaws.{inside}
+use Rattle.index.proofs.KeyLaws.{at-row}
+use Rattle.sound_blocks.specs.Walk.{usedIn}
+use Rattle.sound_blocks.proofs.UsedLaws.{room-ends, rows-end, row-used}
+use Rattle.sound_blocks.proofs.BlockLaws.{rises}
+use Rattle.sound_blocks.proofs.ServiceLaws.{Going, going-first, going-last, slots-as-before, row-astray, block-unsound, service-came, going-on}
 use Rattle.sound_blocks.proofs.are_blocks_sound.Statement.{statement}
 use Rattle.sound_blocks.proofs.are_blocks_sound.Tie as tie
 
 abbrev Inv-loop : tie.InvT-loop
-Inv-loop t used counts companies modes stations footnotes places first i₀ i = Left counts companies modes stations footnotes t used i
+Inv-loop t counts companies modes stations footnotes places₀ room run₀ i₀ places run i =
+    Going counts companies modes stations footnotes t (usedIn t) places₀ run i places
 
 abbrev μ-loop : tie.MeasureT-loop
-μ-loop t used counts companies modes stations footnotes places first i₀ i = used - i
+μ-loop t counts companies modes stations footnotes places₀ room run₀ i₀ places run i = room - i
 
--- the entry, from the first head, and from the loop
-abbrev from-first : tie.After-next-head Inv-loop μ-loop → tie.Start Inv-loop μ-loop
-from-first n = n .before .before .before .before .before .before .before
-
+-- the entry, from the loop
 abbrev entry : tie.At-loop Inv-loop μ-loop → tie.Start Inv-loop μ-loop
-entry l = from-first (l .before .before)
+entry l = l .before .before .before .before .before .before .before .before
 
-next-head-requires : tie.Need-next-head-requires Inv-loop μ-loop
-next-head-requires c κs = search needs
+-- from the index back to the block that was tested, to the tests of its first word, and to the loop
+abbrev to-block : tie.After-index-row Inv-loop μ-loop → tie.After-test-block Inv-loop μ-loop
+to-block r = r .before .before .before .before .before
 
-returns : tie.Need-returns Inv-loop μ-loop
-returns c =
-    let n = c .before in
-    let a = from-first n .args in
-    stray _ _ _ _ _ (a .t .now) (a .used) _ (n .next-head .ensures) (c .if1 .taken)
+abbrev to-head : tie.After-test-block Inv-loop μ-loop → tie.Else2 Inv-loop μ-loop
+to-head b = b .before .before
+
+abbrev to-loop : tie.Else1 Inv-loop μ-loop → tie.At-loop Inv-loop μ-loop
+to-loop u = u .before .before .before
+
+-- a row whose first word is not 0 is in use, and begins a block where that is a `#`
+in-use : (u : tie.Else1 Inv-loop μ-loop) → to-loop u .loop .i < usedIn (entry (to-loop u) .args .t .now)
+in-use u =
+    let l = to-loop u in
+    row-used (entry l .args .t .now) (l .loop .i) (l .loop .inv .left .high) (u .before .before .loop-test .taken) _ (u .before .word-at .ensures)
+    (u .if1 .left)
+
+is-head : (h : tie.Else2 Inv-loop μ-loop)
+    → isHashRow (rowAt (rowWidth Timetbls) (entry (to-loop (h .before)) .args .t .now) (to-loop (h .before) .loop .i)) ≡ true
+is-head h = sym (ap (λ k. eqb k hash) (h .before .before .word-at .ensures)) ∙ eq-eqb _ hash (h .if2 .left)
 
 loop-holds : tie.Need-loop-holds Inv-loop μ-loop
 loop-holds c =
-    let n = c .before in
-    let a = from-first n .args in
-    starts _ _ _ _ _ (a .t .now) (a .used) _ (n .next-head .ensures) (c .if1 .left)
+    let s = c .before .before .before .before .before .before .before in
+    let a = s .args in
+    going-first _ _ _ _ _ (a .t .now) _ (s .pre .0) (inside Timetbls (a .t .now) _ refl) (s .pre .1) (a .places .now) _ (c .no-keys .ensures)
 
-test-block-requires : tie.Need-test-block-requires Inv-loop μ-loop
-test-block-requires c κs =
-    let s = entry (c .before) in
-    record { some = c .loop-test .taken; inside = s .pre .1 }
+word-at-requires : tie.Need-word-at-requires Inv-loop μ-loop
+word-at-requires c κs = (omega arith, row-in-table (rowWidth Timetbls) (c .before .loop .i) _ (c .loop-test .taken))
+
+returns : tie.Need-returns Inv-loop μ-loop
+returns c =
+    let w = c .before in
+    let l = w .before .before in
+    let a = entry l .args in
+    going-last _ _ _ _ _ (a .t .now) _ (a .places .now) (l .loop .run) (l .loop .i) (l .loop .places) (l .loop .inv)
+    (rows-end (a .t .now) (l .loop .i) (l .loop .inv .left .high) (w .before .loop-test .taken) _ (w .word-at .ensures) (c .if1 .taken))
 
 returns-2 : tie.Need-returns-2 Inv-loop μ-loop
 returns-2 c =
-    let b = c .before .before in
-    let l = b .before .before in
-    let a = entry l .args in
-    unsound-block _ _ _ _ _ (a .t .now) (a .used) (l .loop .i) (l .loop .inv) (b .before .loop-test .taken) _ (b .test-block .ensures)
-    (c .enum-told .given .1)
+    let u = c .before in
+    let l = to-loop u in
+    let a = entry l .args in (
+      row-astray _ _ _ _ _ (a .t .now) _ (a .places .now) (l .loop .run) (l .loop .i) (l .loop .places) (l .loop .inv) (in-use u)
+          (sym (ap (λ k. eqb k hash) (u .before .word-at .ensures)) ∙ ne-eqb _ hash (c .if2 .taken)),
+      slots-as-before _ _ _ _ _ (a .t .now) _ (a .places .now) (l .loop .run) (l .loop .i) (l .loop .places) (l .loop .inv),
+    )
 
-loop-less : tie.Need-loop-less Inv-loop μ-loop
-loop-less c =
-    let k = c .before in
-    let b = k .before .before in
-    let l = b .before .before in
-    let a = entry l .args in
-    let more = rises _ _ _ _ _ (a .t .now) (a .used) (l .loop .i) (l .loop .inv) (b .before .loop-test .taken) _ (b .test-block .ensures) _ (k .end .given .1) in
-    let most = stays _ _ _ _ _ (a .t .now) (a .used) (l .loop .i) (l .loop .inv) (b .before .loop-test .taken) _ (b .test-block .ensures) _ (k .end .given .1) in
-    omega (arith, more, most, b .before .loop-test .taken)
-
-loop-again : tie.Need-loop-again Inv-loop μ-loop
-loop-again c =
-    let k = c .before in
-    let b = k .before .before in
-    let l = b .before .before in
-    let a = entry l .args in
-    goes-on _ _ _ _ _ (a .t .now) (a .used) (l .loop .i) (l .loop .inv) (b .before .loop-test .taken) _ (b .test-block .ensures) _ (k .end .given .1)
+test-block-requires : tie.Need-test-block-requires Inv-loop μ-loop
+test-block-requires c κs =
+    let u = c .before .before in
+    record { some = in-use u; inside = inside Timetbls (entry (to-loop u) .args .t .now) _ refl }
 
 returns-3 : tie.Need-returns-3 Inv-loop μ-loop
 returns-3 c =
+    let b = c .before .before in
+    let h = to-head b in
+    let l = to-loop (h .before) in
+    let a = entry l .args in (
+      block-unsound _ _ _ _ _ (a .t .now) _ (a .places .now) (l .loop .run) (l .loop .i) (l .loop .places) (l .loop .inv) (in-use (h .before))
+          (is-head h) _ (b .test-block .ensures) (c .enum-told .given .1),
+      slots-as-before _ _ _ _ _ (a .t .now) _ (a .places .now) (l .loop .run) (l .loop .i) (l .loop .places) (l .loop .inv),
+    )
+
+index-row-requires : tie.Need-index-row-requires Inv-loop μ-loop
+index-row-requires c κs =
+    let h = to-head (c .before .before .before .before) in
+    let l = to-loop (h .before) in
+    let s = entry l in
+    let a = s .args in
+    at-row Timetbls _ (a .t .now) (a .places .now) (l .loop .run) (l .loop .i) (l .loop .places) (l .loop .inv .services)
+    (inside Timetbls (a .t .now) _ refl) (s .pre .1) (in-use (h .before))
+
+returns-4 : tie.Need-returns-4 Inv-loop μ-loop
+returns-4 c =
+    let r = c .before .before .before .before in
+    let b = to-block r in
+    let h = to-head b in
+    let l = to-loop (h .before) in
+    let a = entry l .args in
+    service-came _ _ _ _ _ (a .t .now) _ (a .places .now) (l .loop .run) (l .loop .i) (l .loop .places) (l .loop .inv) (in-use (h .before)) (is-head h)
+    _ (b .test-block .ensures) _ (r .before .before .before .end .given .1) _ _ (r .index-row .ensures) (c .enum-told2 .given .1)
+
+loop-less : tie.Need-loop-less Inv-loop μ-loop
+loop-less c =
+    let r = c .before .before .before .before .before in
+    let b = to-block r in
+    let h = to-head b in
+    let l = to-loop (h .before) in
+    let a = entry l .args in
+    let more = rises _ _ _ _ _ (a .t .now) _ (l .loop .i) (l .loop .inv .left) (in-use (h .before)) (is-head h) _ (b .test-block .ensures) _
+    (r .before .before .before .end .given .1) in
+    omega (arith, more, h .before .before .before .loop-test .taken)
+
+loop-again : tie.Need-loop-again Inv-loop μ-loop
+loop-again c =
+    let r = c .before .before .before .before .before in
+    let b = to-block r in
+    let h = to-head b in
+    let l = to-loop (h .before) in
+    let a = entry l .args in
+    going-on _ _ _ _ _ (a .t .now) _ (a .places .now) (l .loop .run) (l .loop .i) (l .loop .places) (l .loop .inv) (in-use (h .before)) (is-head h) _
+    (b .test-block .ensures) _ (r .before .before .before .end .given .1) _ _ (r .index-row .ensures) _ (c .before .next .given .1)
+
+returns-5 : tie.Need-returns-5 Inv-loop μ-loop
+returns-5 c =
     let l = c .before in
     let a = entry l .args in
-    ends _ _ _ _ _ (a .t .now) (a .used) (l .loop .i) (l .loop .inv) (c .loop-test .left)
+    going-last _ _ _ _ _ (a .t .now) _ (a .places .now) (l .loop .run) (l .loop .i) (l .loop .places) (l .loop .inv)
+    (room-ends (a .t .now) (l .loop .i) (l .loop .inv .left .high) (c .loop-test .left))
 
 pub are-blocks-sound-spec : {M : Type 1} → statement M
 are-blocks-sound-spec =
@@ -77,13 +147,24 @@ are-blocks-sound-spec =
     (tie.spec
     Inv-loop
     μ-loop
-    next-head-requires
-    returns
+    (λ c κs. search needs)
     loop-holds
+    word-at-requires
+    (λ c. search needs)
+    returns
+    (λ c. search needs)
+    returns-2
     test-block-requires
     (λ c. search needs)
     (λ c. search needs)
-    returns-2
+    (λ c. search needs)
+    returns-3
+    index-row-requires
+    (λ c. search needs)
+    (λ c. search needs)
+    (λ c. search needs)
+    returns-4
     loop-less
     loop-again
-    returns-3)
+    (λ c. search needs)
+    returns-5)

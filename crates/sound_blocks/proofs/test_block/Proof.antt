@@ -19,20 +19,20 @@ returns : tie.Need-returns
 returns c =
     let w = c .before .before in
     let s = entry w in
-    unsound-row _ _ _ _ _ (s .args .t .now) (s .args .from) (s .args .used) (s .pre) _ (w .walk-rows .ensures) (c .enum-told .given .1)
+    unsound-row _ _ _ _ _ (s .args .t .now) (s .args .from) _ (s .pre) _ (w .walk-rows .ensures) (c .enum-told .given .1)
 
 word-at-requires : tie.Need-word-at-requires
 word-at-requires c κs =
     let w = c .before .before .before in
     let s = entry w in
-    (omega arith, row-inside (rowWidth Timetbls) (s .args .from) (s .args .used) (length (s .args .t .now)) (s .pre .some) (s .pre .inside))
+    (omega arith, row-inside (rowWidth Timetbls) (s .args .from) _ (length (s .args .t .now)) (s .pre .some) (s .pre .inside))
 
 sub-if1 : tie.Need-sub-if1
 sub-if1 c =
     let k = c .before .before in
     let w = k .before .before in
     let s = entry w in
-    block-in _ _ _ _ _ (s .args .t .now) (s .args .from) (s .args .used) (s .pre) _ (w .walk-rows .ensures) _ _ (k .block .given .1)
+    block-in _ _ _ _ _ (s .args .t .now) (s .args .from) _ (s .pre) _ (w .walk-rows .ensures) _ _ (k .block .given .1)
 
 returns-2 : tie.Need-returns-2
 returns-2 c =
@@ -40,7 +40,7 @@ returns-2 c =
     let k = n .before .before in
     let w = k .before .before in
     let s = entry w in
-    other-lines _ _ _ _ _ (s .args .t .now) (s .args .from) (s .args .used) (s .pre) _ (w .walk-rows .ensures) _ _ (k .block .given .1) (λ q. omega (arith, c .if1 .taken, n .word-at .ensures, q))
+    other-lines _ _ _ _ _ (s .args .t .now) (s .args .from) _ (s .pre) _ (w .walk-rows .ensures) _ _ (k .block .given .1) (λ q. omega (arith, c .if1 .taken, n .word-at .ensures, q))
 
 returns-3 : tie.Need-returns-3
 returns-3 c =
@@ -48,14 +48,14 @@ returns-3 c =
     let k = f .before .before .before .before in
     let w = k .before .before in
     let s = entry w in
-    unfinished _ _ _ _ _ (s .args .t .now) (s .args .from) (s .args .used) (s .pre) _ (w .walk-rows .ensures) _ _ (k .block .given .1)
+    unfinished _ _ _ _ _ (s .args .t .now) (s .args .from) _ (s .pre) _ (w .walk-rows .ensures) _ _ (k .block .given .1)
     (sym (f .is-finished .ensures) ∙ not-true _ (c .if2 .taken))
 
 word-at-requires-2 : tie.Need-word-at-requires-2
 word-at-requires-2 c κs =
     let w = c .before .before .before .before .before .before .before in
     let s = entry w in
-    (omega arith, row-inside (rowWidth Timetbls) (s .args .from) (s .args .used) (length (s .args .t .now)) (s .pre .some) (s .pre .inside))
+    (omega arith, row-inside (rowWidth Timetbls) (s .args .from) _ (length (s .args .t .now)) (s .pre .some) (s .pre .inside))
 
 returns-4 : tie.Need-returns-4
 returns-4 c =
@@ -63,14 +63,14 @@ returns-4 c =
     let k = n .before .before .before .before .before .before in
     let w = k .before .before in
     let s = entry w in
-    other-stops _ _ _ _ _ (s .args .t .now) (s .args .from) (s .args .used) (s .pre) _ (w .walk-rows .ensures) _ _ (k .block .given .1) (λ q. omega (arith, c .if3 .taken, n .word-at2 .ensures, q))
+    other-stops _ _ _ _ _ (s .args .t .now) (s .args .from) _ (s .pre) _ (w .walk-rows .ensures) _ _ (k .block .given .1) (λ q. omega (arith, c .if3 .taken, n .word-at2 .ensures, q))
 
 are-right-requires : tie.Need-are-right-requires
 are-right-requires c κs =
     let k = c .before .before .before .before .before .before .before in
     let w = k .before .before in
     let s = entry w in
-    legs-ask _ _ _ _ _ (s .args .t .now) (s .args .from) (s .args .used) (s .pre) _ (w .walk-rows .ensures) _ _ (k .block .given .1)
+    legs-ask _ _ _ _ _ (s .args .t .now) (s .args .from) _ (s .pre) _ (w .walk-rows .ensures) _ _ (k .block .given .1)
 
 returns-5 : tie.Need-returns-5
 returns-5 c =
@@ -78,7 +78,7 @@ returns-5 c =
     let k = l .before .before .before .before .before .before .before .before in
     let w = k .before .before in
     let s = entry w in
-    other-legs _ _ _ _ _ (s .args .t .now) (s .args .from) (s .args .used) (s .pre) _ (w .walk-rows .ensures) _ _ (k .block .given .1) _ (l .are-right .ensures)
+    other-legs _ _ _ _ _ (s .args .t .now) (s .args .from) _ (s .pre) _ (w .walk-rows .ensures) _ _ (k .block .given .1) _ (l .are-right .ensures)
     (not-true _ (c .if4 .taken))
 
 returns-6 : tie.Need-returns-6
@@ -90,7 +90,7 @@ returns-6 c =
     let k = n .before .before .before in
     let w = k .before .before in
     let s = entry w in
-    block-sound _ _ _ _ _ (s .args .t .now) (s .args .from) (s .args .used) (s .pre) _ (w .walk-rows .ensures) _ _ (k .block .given .1) _ (l .are-right .ensures)
+    block-sound _ _ _ _ _ (s .args .t .now) (s .args .from) _ (s .pre) _ (w .walk-rows .ensures) _ _ (k .block .given .1) _ (l .are-right .ensures)
     (omega (arith, n .if1 .left, n .before .word-at .ensures))
     (sym (f .before .is-finished .ensures) ∙ not-false _ (f .if2 .left))
     (omega (arith, p .if3 .left, p .before .word-at2 .ensures))

@@ -10,19 +10,19 @@ use Rattle.sound_rows.proofs.is_row_sound.Tie as tie
 
 returns : tie.Need-returns
 returns c ctx d k =
-    let a = c .before .before .before .before .before .args in
+    let a = c .before .before .before .before .before .before .args in
     plain-by ctx (a .file) (a .count) (a .row .now) false _ _ _ false (ne-eqb _ _ (c .if1 .taken)) refl refl refl refl
 
 is-shaped-requires : tie.Need-is-shaped-requires
 is-shaped-requires c κs =
-    let s = c .before .before .before .before .before .before in
+    let s = c .before .before .before .before .before .before .before in
     fits-row (s .args .form) (s .args .file) _ _ _ (c .record-of .ensures) (s .pre)
 
 returns-2 : tie.Need-returns-2
 returns-2 c ctx d k =
     let o = c .before .before in
     let t = o .before in
-    let a = t .before .before .before .before .before .args in
+    let a = t .before .before .before .before .before .before .args in
     plain-by ctx (a .file) (a .count) (a .row .now) true false _ _ false (eq-eqb _ _ (t .if1 .left))
     (sym (shape-is (a .form) (ctx .form) (Rows (a .file)) (a .row .now) _ _ d (o .record-of .ensures) (c .before .is-shaped .ensures))
     ∙ not-true _ (c .if2 .taken))
@@ -33,7 +33,7 @@ returns-3 c ctx d k =
     let s = c .before .before in
     let o = s .before .before in
     let t = o .before in
-    let a = t .before .before .before .before .before .args in
+    let a = t .before .before .before .before .before .before .args in
     plain-by ctx (a .file) (a .count) (a .row .now) true true false _ false (eq-eqb _ _ (t .if1 .left))
     (sym (shape-is (a .form) (ctx .form) (Rows (a .file)) (a .row .now) _ _ d (o .record-of .ensures) (s .before .is-shaped .ensures))
     ∙ not-false _ (s .if2 .left))
@@ -45,7 +45,7 @@ returns-4 c ctx d k =
     let s = m .before .before in
     let o = s .before .before in
     let t = o .before in
-    let a = t .before .before .before .before .before .args in
+    let a = t .before .before .before .before .before .before .args in
     plain-by ctx (a .file) (a .count) (a .row .now) true true true _ _ (eq-eqb _ _ (t .if1 .left))
     (sym (shape-is (a .form) (ctx .form) (Rows (a .file)) (a .row .now) _ _ d (o .record-of .ensures) (s .before .is-shaped .ensures))
     ∙ not-false _ (s .if2 .left))

@@ -7,7 +7,7 @@ use Rattle.sound_rows.proofs.is_sound_at.Tie as tie
 
 returns : tie.Need-returns
 returns c ctx d k =
-    let a = c .before .before .before .before .before .args in
+    let a = c .before .before .before .before .before .before .args in
     at-row ctx (a .file) (a .i - 1) (a .w) (a .i) (a .t .now) _ (c .is-row-sound .ensures ctx d k)
 
 pub is-sound-at-spec : {M : Type 1} → statement M

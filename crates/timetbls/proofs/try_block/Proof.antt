@@ -18,7 +18,7 @@ returns c =
     record {
       tested =
           tested (a .form) (a .block .now) (a .t .now) (a .counts) (a .companies .now) (a .modes .now) (a .stations .now) (a .footnotes .now)
-          _ _ _ (s .pre .one .opens) (v .service-of .ensures (a .form)) (f .is-fresh-service .ensures) (p .place-block .ensures .checked);
+          _ _ _ (s .pre .one .opens) (v .service-of .ensures (a .form)) (f .is-fresh .ensures) (p .place-block .ensures .checked);
       rows = p .place-block .ensures .rows;
     }
 

@@ -8,7 +8,7 @@ use std::path::{Path, PathBuf};
 
 use super::{note, read_small};
 use crate::disk::sum_bytes;
-use crate::files::{Texts, FILES, NAMES};
+use crate::files::{read_up_to, Texts, FILES, NAMES};
 use crate::loading::Rooms;
 use crate::tables::WIDTHS;
 use crate::trouble::Trouble;
@@ -51,13 +51,14 @@ impl Contents {
             return Ok(Vec::new());
         }
         let path = self.folder(root).join("delivery").join(NAMES[file]);
-        let text = fs::read(&path).map_err(|error| match error.kind() {
-            ErrorKind::NotFound => Trouble::missing(format!(
-                "{} is missing. Put that file of the delivery there again.",
-                path.display()
-            )),
-            _ => Trouble::reading(&path, &error),
-        })?;
+        let text =
+            read_up_to(&path, length.saturating_add(1), |_| ()).map_err(|error| match error.kind() {
+                ErrorKind::NotFound => Trouble::missing(format!(
+                    "{} is missing. Put that file of the delivery there again.",
+                    path.display()
+                )),
+                _ => Trouble::reading(&path, &error),
+            })?;
         if (text.len() as u64, sum_bytes(&text)) != (length, sum) {
             return Err(Trouble::new(format!(
                 "{} is damaged: it is not the file that was opened. Put that file of the delivery there again.",
