@@ -328,25 +328,25 @@ pub fn read_blocks(
         iff::Test::Passes => {
             let counts = references::count_for_blocks(companies, modes, stations, footnotes);
             let mut places = [0u32; 16445];
-            keys::index_rows(
+            places::index_rows(
                 iff::File::Rows(iff::RowFile::Stations),
                 stations,
                 counts.stations,
                 &mut places,
             );
-            keys::index_rows(
+            places::index_rows(
                 iff::File::Groups(iff::GroupFile::Footnote),
                 footnotes,
                 counts.footnotes,
                 &mut places,
             );
-            keys::index_rows(
+            places::index_rows(
                 iff::File::Rows(iff::RowFile::Company),
                 companies,
                 counts.companies,
                 &mut places,
             );
-            keys::index_rows(
+            places::index_rows(
                 iff::File::Rows(iff::RowFile::Trnsmode),
                 modes,
                 counts.modes,

@@ -1,12 +1,12 @@
--- `index_services` meets its contract: each row that is read is one of the first rows, and no slot is added. Assumes nothing.
+-- `index_asked` meets its contract: each row that is read is one of the first rows, and no slot is added. Assumes nothing.
 use Prim.Native.Nat.{_-_}
 use mathlib.Core.Path.{_≡_, refl}
 use native.Mathlib.Omega.{arith}
 use borrow.Author.Needs.{needs}
 use lib.ListN.{length}
 use Rattle.keys.proofs.Among.{row-among}
-use Rattle.keys.proofs.index_services.Statement.{statement}
-use Rattle.keys.proofs.index_services.Tie as tie
+use Rattle.places.proofs.index_asked.Statement.{statement}
+use Rattle.places.proofs.index_asked.Tie as tie
 
 abbrev Inv-loop : tie.InvT-loop
 Inv-loop t used places₀ rows i₀ places i = length places ≡ length places₀
@@ -24,8 +24,8 @@ next-block-requires c κs =
     let t = c .before .before .before .before .before in
     (t .loop-test .taken, word-at-requires t κs .1)
 
-pub index-services-spec : {M : Type 1} → statement M
-index-services-spec =
+pub index-asked-spec : {M : Type 1} → statement M
+index-asked-spec =
     tie.close
     (tie.spec
     Inv-loop

@@ -5,10 +5,10 @@ use mathlib.Core.Logic.{⊎-elim}
 use native.Mathlib.Omega.{arith}
 use borrow.Author.Needs.{needs}
 use lib.ListN.{length}
 use Rattle.keys.proofs.Lookup.{key-column}
 use Rattle.keys.proofs.Among.{row-among}
-use Rattle.keys.proofs.index_rows.Statement.{statement}
-use Rattle.keys.proofs.index_rows.Tie as tie
+use Rattle.places.proofs.index_rows.Statement.{statement}
+use Rattle.places.proofs.index_rows.Tie as tie
 
 abbrev Inv-loop : tie.InvT-loop
 Inv-loop t used places₀ w tag col rows i₀ places i = length places ≡ length places₀
