@@ -1,6 +1,6 @@
 -- One class of keys asked by a set: a key that is new is put there, and one that is found there came before. Assumes nothing.
 use Prim.Native.Nat.{ℕ, suc, _+_, _≤_, _<_}
-use mathlib.Core.Path.{_≡_, refl, ap, sym, _∙_}
+use mathlib.Core.Path.{_≡_, refl, ap, _∙_}
 use mathlib.Core.List.{List}
 use mathlib.Core.Bool.{Bool, true, false}
 use native.Mathlib.Nat.{mod-lt}
@@ -8,11 +8,10 @@ use native.Mathlib.Omega.{arith}
 use borrow.Author.Tests.{ltb-true, ltb-false, eqb-true, eqb-false}
 use lib.Dec.{ltb, eqb}
 use lib.ListN.{length, getD, set, length-set}
-use Rattle.repeats.specs.Sets.{AllFree, FirstFree, Held, NewPut, KeyPut, Stands}
+use Rattle.repeats.specs.Sets.{AllFree, FirstFree, Held, KeyPut, Stands}
 use Rattle.repeats.specs.Classes.{classOf, CameBy, CameAgain, ClearTo, KeyTried, ClassLeft, ClassAsked, SetOf, Asking}
 use Rattle.repeats.specs.declared.Tried.{Tried}
-use Rattle.repeats.specs.declared.Tried.the-variants.{Goes, Came}
-use Rattle.repeats.specs.declared.Asked.{Asked}
+use Rattle.repeats.specs.declared.Tried.the-variants.{Goes}
 use Rattle.repeats.specs.declared.Asked.the-variants.{Upto, Nothing}
 use Rattle.repeats.proofs.SetLaws.{still-stands, now-stands, holds-still, holds-new}
 
@@ -138,8 +137,8 @@ module _ (classes class : ℕ) (ks : List ℕ) (upto : ℕ) where
 
 -- ALL CLASSES
 module _ (classes : ℕ) (ks : List ℕ) (used : ℕ) where
-  pub none-yet : length ks ≤ used → Asking classes ks used 0 used
-  none-yet h = record { clear = λ d l. absurd (omega arith); again = λ l. absurd (omega arith) }
+  pub none-yet : Asking classes ks used 0 used
+  none-yet = record { clear = λ d l. absurd (omega arith); again = λ l. absurd (omega arith) }
 
   pub one-class : (class upto n : ℕ) → Asking classes ks used class upto → ClassLeft classes class ks upto n → Asking classes ks used (class + 1) n
   one-class class upto n x l =

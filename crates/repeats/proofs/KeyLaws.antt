@@ -1,26 +1,22 @@
 -- Keys that are asked class by class: where no class has one that came before, they are distinct. Assumes nothing.
 use Prim.Native.Nat.{ℕ, zero, suc, _+_, _≤_, _<_}
-use mathlib.Core.Path.{_≡_, refl, ap, sym, _∙_}
+use mathlib.Core.Path.{_≡_, refl, sym, _∙_}
 use mathlib.Core.List.{List, [], _∷_, _++_, append-nil, append-assoc}
-use mathlib.Core.Bool.{Bool, true, false, not, _&&_, _||_, false≢true}
+use mathlib.Core.Bool.{Bool, true, false, not, _||_, or-true}
 use native.Mathlib.Omega.{arith}
 use borrow.Author.Tests.{eqb-true, eq-eqb}
 use lib.Dec.{eqb}
-use lib.ListN.{length, getD, take, length-take}
-use lib.Seq.{take-length, take-take, getD-take, length-take-le}
+use lib.ListN.{length, getD, take}
+use lib.Seq.{getD-take, length-take-le}
 use Rattle.iff.specs.Lists.{any, has}
 use Rattle.iff_desk.specs.Sound.{distinct, passes, followedBy}
-use Rattle.repeats.specs.Repeats.{FirstRepeat, Told}
-use Rattle.repeats.specs.Classes.{classOf, CameBy, CameAgain, ClearTo, Asking}
+use Rattle.repeats.specs.Repeats.{Told}
+use Rattle.repeats.specs.Classes.{classOf, CameBy, Asking}
 use Rattle.repeats.specs.declared.Repeats.the-variants.{Never, First, Untold}
 use Rattle.repeats.proofs.ClassLaws.{class-below}
 
 -- a key that came is among the first ones, and one that did not is not
-or-true : (b : Bool) → (b || true) ≡ true
-or-true true = refl
-or-true false = refl
-
-pub came-has : (ks : List ℕ) (n at key : ℕ) → at < n → at < length ks → getD ks at 0 ≡ key → has key (take n ks) ≡ true
+came-has : (ks : List ℕ) (n at key : ℕ) → at < n → at < length ks → getD ks at 0 ≡ key → has key (take n ks) ≡ true
 unfolding any
 came-has ks zero at key h l e = absurd (omega arith)
 came-has [] (suc n) at key h l e = absurd (omega arith)

@@ -10,13 +10,13 @@ use lib.Seq.{drop-cons}
 use Rattle.iff.specs.declared.File.the-variants.{Timetbls}
 use Rattle.iff.specs.Lists.{kept, front, groups}
 use Rattle.iff.specs.Tables.{Row, word, rowWidth, rowAt, keyWord, isHashRow, keysOf}
-use Rattle.keys.specs.Blocks.{blockOfRows, rowsBetween}
+use Rattle.keys.specs.Blocks.{blockOfRows}
 use Rattle.keys.specs.Lookup.{keysAmong}
 use Rattle.keys.proofs.Among.{keys-there}
 use Rattle.keys.proofs.Blocks.{between-first}
 use Rattle.walks.specs.Heads.{NextHead}
 use Rattle.repeats.specs.Sets.{AllFree, Held}
-use Rattle.repeats.specs.Classes.{classOf, CameBy, KeyTried, ClassAsked, servicesFrom, Walking}
+use Rattle.repeats.specs.Classes.{KeyTried, ClassAsked, servicesFrom, Walking}
 use Rattle.repeats.specs.declared.Tried.{Tried}
 use Rattle.repeats.specs.declared.Tried.the-variants.{Goes}
 use Rattle.repeats.specs.declared.Asked.the-variants.{Upto}

@@ -10,7 +10,7 @@ use lib.ListN.{length, getD, set, replicate}
 use lib.Seq.{getD-set-same, getD-set-other}
 use Rattle.keys.specs.Places.{probes}
 use Rattle.keys.proofs.PlaceLaws.{place-inside}
-use Rattle.repeats.specs.Sets.{window, firstSlot, AllFree, NoneFree, Others, FirstFree, Held, Probed, NewPut, KeyPut, Stands}
+use Rattle.repeats.specs.Sets.{window, firstSlot, AllFree, NoneFree, Others, FirstFree, Held, Probed, KeyPut, Stands}
 use Rattle.repeats.specs.declared.Met.the-variants.{Free, Taken, Full}
 use Rattle.repeats.specs.declared.Tried.the-variants.{Goes, Came, NoRoom}
 

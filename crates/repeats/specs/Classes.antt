@@ -1,5 +1,5 @@
 -- Keys asked class by class. A key that comes twice is of one class both times: where in no class one comes again, none does.
-use Prim.Native.Nat.{ℕ, _+_, _/_, _%_, _≤_, _<_}
+use Prim.Native.Nat.{ℕ, _+_, _%_, _≤_, _<_}
 use mathlib.Core.Path.{_≡_}
 use mathlib.Core.List.{List}
 use mathlib.Core.Bool.{true}
@@ -14,9 +14,9 @@ use Rattle.repeats.specs.declared.Tried.the-variants.{Goes, Came}
 use Rattle.repeats.specs.declared.Asked.{Asked}
 use Rattle.repeats.specs.declared.Asked.the-variants.{Upto}
 
--- a key's class, of so many
+-- a key's class, of so many: any function of the key serves
 unfoldable pub classOf : ℕ → ℕ → ℕ
-classOf classes key = key / 7 % classes
+classOf classes key = key % 65521 % classes
 
 -- one of the first n keys is this one
 pub record CameBy (ks : List ℕ) (n key : ℕ) : Type 0 where

@@ -1,8 +1,8 @@
 // Services that come twice, told of a whole table in a few walks over it, in whatever order they come: each walk asks for the services of one class,
-// and as many as a class has find room in a set on the stack.
+// which find room in a set on the stack.
 ghost use mathlib.Core.Path.{_≡_};
-ghost use Prim.Native.Nat.{ℕ, _*_, _<_, _≤_};
-ghost use lib.ListN.{length, getD};
+ghost use Prim.Native.Nat.{_*_, _<_, _≤_};
+ghost use lib.ListN.{length};
 ghost use Rattle.iff.specs.Tables.{rowWidth};
 ghost use Rattle.iff.specs.declared.File.the-variants.{Timetbls};
 ghost use Rattle.keys.specs.Lookup.{keysAmong};
@@ -89,12 +89,12 @@ fn put_key(set: &mut [u32], key: u64) -> Tried
 
 // CLASSES
 
-// The class of a key. Numbers come in runs, and often end in the same digit.
+// The class of a key. Numbers come in runs and in steps, and what is left of them by a prime is of every class, whatever the step.
 fn class_of(key: u64, classes: u64) -> u64
     requires { ⌜ 0 < classes ⌝ }
     ensures { λ r. ⌜ r ≡ classOf classes key ⌝ }
 {
-    key / 7 % classes
+    key % 65521 % classes
 }
 
 // A key that is none of the class is gone over.
@@ -141,6 +141,7 @@ fn walk_class(
 // How many slots a set has.
 const SLOTS: usize = 200000;
 
+// The same with a set of its own.
 fn ask_class(t: &[u64], used: usize, upto: usize, classes: u64, class: u64) -> Asked
     requires { ⌜ (used * rowWidth Timetbls ≤ length (now t)) × (0 < classes) ⌝ }
     ensures { λ r. ⌜ ClassAsked classes class (keysAmong Timetbls used (now (t .entry))) upto r ⌝ }
@@ -149,7 +150,7 @@ fn ask_class(t: &[u64], used: usize, upto: usize, classes: u64, class: u64) -> A
     walk_class(t, used, upto, classes, class, &mut set)
 }
 
-// So many that a class fills no more than three quarters of a set. There are no more services than rows, whatever is said of them.
+// So many classes that each fills about three quarters of a set at the most. There are no more services than rows, whatever is said of them.
 fn class_count(used: usize, count: u64) -> u64
     ensures { λ r. ⌜ 0 < r ⌝ }
 {
@@ -160,8 +161,8 @@ fn class_count(used: usize, count: u64) -> u64
     rows / 150000 + 1
 }
 
-// `count` says about how many services there are; it is a hint alone. A class that has no more than those before the first that was found is not asked
-// further.
+// `count` says about how many services there are; it is a hint alone. Once one is found that came before, later classes are asked only for the
+// services before it.
 pub fn first_repeat(t: &[u64], used: usize, count: u64) -> Repeats
     requires { ⌜ used * rowWidth Timetbls ≤ length (now t) ⌝ }
     ensures { λ r. ⌜ Told (keysAmong Timetbls used (now (t .entry))) r ⌝ }

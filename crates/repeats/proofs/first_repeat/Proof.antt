@@ -19,9 +19,8 @@ abbrev μ-loop : tie.MeasureT-loop
 
 loop-holds : tie.Need-loop-holds Inv-loop μ-loop
 loop-holds c =
-    let s = c .before .before in
-    let a = s .args in
-    none-yet (c .class-count .result) (keysAmong Timetbls (a .used) (a .t .now)) (a .used) (no-more (a .used) (a .t .now) (s .pre))
+    let a = c .before .before .args in
+    none-yet (c .class-count .result) (keysAmong Timetbls (a .used) (a .t .now)) (a .used)
 
 ask-class-requires : tie.Need-ask-class-requires Inv-loop μ-loop
 ask-class-requires c κs =

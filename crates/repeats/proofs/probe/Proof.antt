@@ -1,9 +1,7 @@
 -- `probe` meets its contract: each slot that is passed is neither free nor holds the key. Assumes nothing.
-use Prim.Native.Nat.{_+_, _-_, _≤_}
-use mathlib.Core.Path.{sym, _∙_}
+use Prim.Native.Nat.{_-_, _≤_}
 use native.Mathlib.Omega.{arith}
 use borrow.Author.Needs.{needs}
-use lib.ListN.{length, getD}
 use Rattle.repeats.specs.Sets.{NoneFree, Others}
 use Rattle.repeats.proofs.SetLaws.{one-slot-more, free-met, taken-met, full-met}
 use Rattle.repeats.proofs.probe.Statement.{statement}
