@@ -275,6 +275,7 @@ fn are_right_behind(
         form,
         country,
         timezone,
+        places,
     );
     let with_country = sound_behind::are_rows_right(
         with_company,
@@ -284,6 +285,7 @@ fn are_right_behind(
         form,
         country,
         timezone,
+        places,
     );
     let with_trnsmode = sound_behind::are_rows_right(
         with_country,
@@ -293,6 +295,7 @@ fn are_right_behind(
         form,
         country,
         timezone,
+        places,
     );
     let with_timezone = sound_behind::are_groups_right(
         with_trnsmode,
@@ -316,6 +319,7 @@ fn are_right_behind(
         form,
         country,
         timezone,
+        places,
     );
     let with_footnote = sound_behind::are_groups_right(
         with_stations,
