@@ -93,7 +93,7 @@ opened-on Opening (r ∷ rs) o = absurd (false≢true o)
 opened-on Opened (r ∷ rs) o = opened-on Going rs refl
 opened-on Going (r ∷ rs) o = opened-on Going rs refl
 
-pub opened-behind : (r : Row) (rs : List Row) → opened (groupStand (r ∷ rs)) ≡ true
+opened-behind : (r : Row) (rs : List Row) → opened (groupStand (r ∷ rs)) ≡ true
 unfolding groupStand after
 opened-behind r rs = opened-on Opened rs refl
 

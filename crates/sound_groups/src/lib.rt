@@ -116,7 +116,7 @@ fn walk_groups(
     true
 }
 
-// The same with marks.
+// The same with marks, of which there are none before the first group.
 fn walk_marked(
     file: GroupFile,
     t: &[u64],
@@ -164,7 +164,8 @@ fn is_told_by_marks(file: GroupFile) -> bool {
     }
 }
 
-// The same with marks where many rows may stand in one group: few are sooner compared with each other than the marks are cleared.
+// The groups behind the row of the first line, with marks where many rows may stand in one group: few are sooner compared with each other than the marks
+// are cleared.
 pub fn are_groups_sound(
     file: GroupFile,
     t: &[u64],

@@ -43,7 +43,9 @@ returns-2 c =
     fresh-told (a .file) (a .row .now) rows (n .is-told-new .ensures [] rows marked (c .if2 .taken))
 
 add-fresh-in-group : tie.Need-add-fresh-in-group
-add-fresh-in-group c = add-is-told-new (c .before .before)
+add-fresh-in-group c =
+    let s = start (c .before .before) in
+    omega (arith, s .pre .0, s .pre .1, le-mul-of-pos-right (s .args .to) (widths (Groups (s .args .file)) .some))
 
 returns-3 : tie.Need-returns-3
 returns-3 c =
