@@ -3,15 +3,13 @@
 use iff::File;
 use iff::GroupFile;
 use iff::RowFile;
+use iff::RowOf;
 use iff::tags;
 use iff::words;
 use references::GroupCounts;
 ghost use mathlib.Core.Path.{_≡_};
 ghost use Prim.Native.Nat.{_+_, _*_, _≤_};
 ghost use lib.ListN.{length};
-ghost use Rattle.iff.specs.Tables.{rowWidth};
-ghost use Rattle.iff.specs.declared.File.the-variants.{Groups};
-ghost use Rattle.iff.specs.declared.GroupFile.the-variants.{Changes};
 
 // SERVICES of CHANGES
 
@@ -39,29 +37,60 @@ pub fn index_in_lines(text: &[u8], from: usize, services: &[u64], used: usize, p
     places::index_asked(services, used, places);
 }
 
-// Asks for those of row `i` of a table.
-fn ask_in_row(t: &[u64], w: usize, i: usize, places: &mut [u32])
+// Asks for a service that has no place yet, and tells whether any was asked for so far.
+fn ask_missing(
+    so_far: bool,
+    services: &[u64],
+    used: usize,
+    places: &mut [u32],
+    service: u64,
+) -> bool
+    ensures { λ _. ⌜ length (now (places .exit)) ≡ length (now (places .entry)) ⌝ }
+{
+    if let RowOf::Row(_) = keys::found_by_place(File::Timetbls, services, used, places, service) {
+        return so_far;
+    }
+    places::ask(places, service);
+    true
+}
+
+// Asks for those of row `i` of a table, likewise.
+fn ask_in_row(
+    so_far: bool,
+    t: &[u64],
+    w: usize,
+    i: usize,
+    services: &[u64],
+    used: usize,
+    places: &mut [u32],
+) -> bool
     requires { ⌜ (6 ≤ w) × (i * w + w ≤ length (now t)) ⌝ }
     ensures { λ _. ⌜ length (now (places .exit)) ≡ length (now (places .entry)) ⌝ }
 {
-    if tables::word_at(t, w, i, words::TAG) == tags::DASH {
-        places::ask(places, tables::word_at(t, w, i, words::FROM_SERVICE));
-        places::ask(places, tables::word_at(t, w, i, words::TO_SERVICE));
+    if tables::word_at(t, w, i, words::TAG) != tags::DASH {
+        return so_far;
     }
+    let from = tables::word_at(t, w, i, words::FROM_SERVICE);
+    let to = tables::word_at(t, w, i, words::TO_SERVICE);
+    let one = ask_missing(so_far, services, used, places, from);
+    ask_missing(one, services, used, places, to)
 }
 
-// The same of the rows of a table.
+// The same of the first rows of a table, in places that hold many services already: where all that are named are among them, no service is gone through.
 pub fn index_in_rows(t: &[u64], rows: usize, services: &[u64], used: usize, places: &mut [u32])
-    requires { ⌜ rows * rowWidth (Groups Changes) ≤ length (now t) ⌝ }
     ensures { λ _. ⌜ length (now (places .exit)) ≡ length (now (places .entry)) ⌝ }
 {
     let w = tables::row_width(File::Groups(GroupFile::Changes));
+    let end = keys::rows_among(t, w, rows);
+    let mut asked = false;
     let mut i = 0;
-    while i < rows {
-        ask_in_row(t, w, i, places);
+    while i < end {
+        asked = ask_in_row(asked, t, w, i, services, used, places);
         i += 1;
     }
-    places::index_asked(services, used, places);
+    if asked {
+        places::index_asked(services, used, places);
+    }
 }
 
 // WHAT A FILE NAMES
