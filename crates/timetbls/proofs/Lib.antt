@@ -1,3 +1,4 @@
-pub mod AddLaws
 pub mod CountLaws
 pub mod ReadLaws
+pub mod RepeatLaws
+pub mod StrayLaws

@@ -1,9 +1,9 @@
--- `timetbls::after_block` meets its contract. Assumes nothing.
+-- `block_puts::after_block` meets its contract. Assumes nothing.
 use mathlib.Core.Path.{ap, _∙_}
 use borrow.Author.Needs.{needs}
 use Rattle.fresh_keys.specs.Runs.{stepRun}
-use Rattle.timetbls.proofs.after_block.Statement.{statement}
-use Rattle.timetbls.proofs.after_block.Tie as tie
+use Rattle.block_puts.proofs.after_block.Statement.{statement}
+use Rattle.block_puts.proofs.after_block.Tie as tie
 
 returns : tie.Need-returns
 returns c form =

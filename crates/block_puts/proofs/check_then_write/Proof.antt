@@ -1,8 +1,9 @@
--- `timetbls::check_then_write` meets its contract. Assumes nothing.
+-- `block_puts::check_then_write` meets its contract. Assumes nothing.
+use mathlib.Core.Path.{refl}
 use borrow.Author.Needs.{needs}
-use Rattle.timetbls.proofs.AddLaws.{placed-broken, can-be-placed, placed-whole}
-use Rattle.timetbls.proofs.check_then_write.Statement.{statement}
-use Rattle.timetbls.proofs.check_then_write.Tie as tie
+use Rattle.block_puts.proofs.AddLaws.{placed-broken, can-be-placed, placed-whole}
+use Rattle.block_puts.proofs.check_then_write.Statement.{statement}
+use Rattle.block_puts.proofs.check_then_write.Tie as tie
 
 -- the place before the first call, from the one after it
 abbrev start : tie.After-check-block → tie.Start
@@ -21,7 +22,7 @@ returns c =
     let y = c .before .before .before in
     let a = start y .args in
     placed-broken (a .form) (a .block .now) (a .fresh) (a .counts) (a .companies .now) (a .modes .now) (a .stations .now) (a .footnotes .now)
-    (a .t .now) _ (a .row) _ (y .check-block .ensures) _ _ (c .before .why .given .1)
+    (a .t .now) _ (a .row) _ (y .check-block .ensures) refl _ _ (c .before .why .given .1)
 
 returns-2 : tie.Need-returns-2
 returns-2 c =

@@ -1,8 +1,8 @@
--- `timetbls::place_block` meets its contract: what the quick reader left is checked and written in its place. Assumes nothing.
+-- `block_puts::place_block` meets its contract: what the quick reader left is checked and written in its place. Assumes nothing.
 use borrow.Author.Needs.{needs}
-use Rattle.timetbls.proofs.AddLaws.{placed-quickly, placed-after}
-use Rattle.timetbls.proofs.place_block.Statement.{statement}
-use Rattle.timetbls.proofs.place_block.Tie as tie
+use Rattle.block_puts.proofs.AddLaws.{placed-quickly, placed-after}
+use Rattle.block_puts.proofs.place_block.Statement.{statement}
+use Rattle.block_puts.proofs.place_block.Tie as tie
 
 -- the place before the first call, from the one after it
 abbrev start : tie.After-put-block → tie.Start
