@@ -1,7 +1,7 @@
 -- `timetbls::walk_blocks` meets its contract: what the walk told stands, or a service that came before is the fault, or all is read again. Assumes
 -- nothing.
 use mathlib.Core.Path.{_≡_, refl, _∙_}
-use mathlib.Core.Bool.{true, false}
+use mathlib.Core.Bool.{false}
 use native.Mathlib.Omega.{arith}
 use borrow.Author.Needs.{needs}
 use Rattle.timetbls.proofs.ReadLaws.{walk-sure, walk-never, walk-again, again-inside, alone, told-again, ready-again}
@@ -94,7 +94,7 @@ returns-4 c =
     told-again (a .text .now) (a .from) (a .t .now) (a .marks .now) (s .pre) (a .form) (a .counts) (a .companies .now) (a .modes .now)
     (a .stations .now) (a .footnotes .now) (k .clear-blocks .last .0) _ _ (as-it-was k)
     (walk-sure (a .form) (a .text .now) (a .from) (a .counts) (a .companies .now) (a .modes .now) (a .stations .now) (a .footnotes .now)
-    (k .clear-blocks .last .0) _ true (z .add-blocks2 .result) (z .add-blocks2 .ensures) (z .add-blocks2 .ensures .asked refl))
+    (k .clear-blocks .last .0) _ _ (z .add-blocks2 .result) (z .add-blocks2 .ensures) (z .add-blocks2 .ensures .asked refl))
 
 same-length-7 : tie.Need-same-length-7
 same-length-7 c =
