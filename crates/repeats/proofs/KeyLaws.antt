@@ -2,7 +2,7 @@
 use Prim.Native.Nat.{ℕ, zero, suc, _+_, _≤_, _<_}
 use mathlib.Core.Path.{_≡_, refl, sym, _∙_}
 use mathlib.Core.List.{List, [], _∷_, _++_, append-nil, append-assoc}
-use mathlib.Core.Bool.{Bool, true, false, not, _||_, or-true}
+use mathlib.Core.Bool.{Bool, true, false, not, _||_, or-true, and-false}
 use native.Mathlib.Omega.{arith}
 use borrow.Author.Tests.{eqb-true, eq-eqb}
 use lib.Dec.{eqb}
@@ -10,7 +10,7 @@ use lib.ListN.{length, getD, take}
 use lib.Seq.{getD-take, length-take-le}
 use Rattle.iff.specs.Lists.{any, has}
 use Rattle.iff_desk.specs.Sound.{distinct, passes, followedBy}
-use Rattle.repeats.specs.Repeats.{Told}
+use Rattle.repeats.specs.Repeats.{FirstRepeat, Told}
 use Rattle.repeats.specs.Classes.{classOf, CameBy, Asking}
 use Rattle.repeats.specs.declared.Repeats.the-variants.{Never, First, Untold}
 use Rattle.repeats.proofs.ClassLaws.{class-below}
@@ -46,6 +46,22 @@ new-distinct : (ks : List ℕ) → ((j : ℕ) → j < length ks → CameBy ks j 
 unfolding distinct
 new-distinct ks h =
     all-new [] ks (λ j l. not-came ks j (getD ks j 0) (λ at m g e. h j l (record { at = at; before = m; is = e })))
+
+-- keys of which one is one of those before it
+one-again : (seen ks : List ℕ) (j : ℕ) → j < length ks → has (getD ks j 0) (seen ++ take j ks) ≡ true
+    → passes (λ seen k. not (has k seen)) followedBy seen ks ≡ false
+unfolding passes
+one-again seen [] j l e = absurd (omega arith)
+one-again seen (k ∷ ks) zero l e =
+    let n : has k seen ≡ true = rw append-nil at e in
+    rw n
+one-again seen (k ∷ ks) (suc j) l e =
+    let n : has (getD ks j 0) ((seen ++ (k ∷ [])) ++ take j ks) ≡ true = rw append-assoc e in
+    rw (one-again (seen ++ (k ∷ [])) ks j (omega arith) n, and-false)
+
+pub again-not-distinct : (ks : List ℕ) (j : ℕ) → FirstRepeat ks j → distinct ks ≡ false
+unfolding distinct
+again-not-distinct ks j x = one-again [] ks j (x .inside) (x .again)
 
 -- ALL CLASSES
 module _ (classes : ℕ) (some : 0 < classes) (ks : List ℕ) (used class n : ℕ) (all : classes ≤ class) (x : Asking classes ks used class n) where

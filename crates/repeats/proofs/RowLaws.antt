@@ -54,16 +54,16 @@ module _ (used : ℕ) (t : List ℕ) (room : used * rowWidth Timetbls ≤ length
 
   -- a row that begins a block is the next service
   module _ (i : ℕ) (h : i < used) (e : isHashRow (rowAt (rowWidth Timetbls) t i) ≡ true) where
-    next-service : servicesFrom t used i ≡ word (rowAt (rowWidth Timetbls) t i) (keyWord Timetbls) ∷ servicesFrom t used (suc i)
+    pub next-service : servicesFrom t used i ≡ word (rowAt (rowWidth Timetbls) t i) (keyWord Timetbls) ∷ servicesFrom t used (suc i)
     unfolding kept
     next-service = ap (keysOf Timetbls) (between-first (rowWidth Timetbls) t i used h) ∙ rw e
 
   -- rows that begin none are gone over
-  same-services : (from r : ℕ) → NextHead (rowWidth Timetbls) t from used r → servicesFrom t used from ≡ servicesFrom t used r
+  pub same-services : (from r : ℕ) → NextHead (rowWidth Timetbls) t from used r → servicesFrom t used from ≡ servicesFrom t used r
   same-services from r x =
       services-open _ ∙ (ap (map (λ g. word (g .top) (keyWord Timetbls))) (x .behind) ∙ sym (services-open _))
 
-  none-left : (i : ℕ) → used ≤ i → servicesFrom t used i ≡ []
+  pub none-left : (i : ℕ) → used ≤ i → servicesFrom t used i ≡ []
   unfolding kept blockOfRows
   none-left i h =
       let z : used - i ≡ 0 = omega arith in
