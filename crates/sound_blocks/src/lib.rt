@@ -7,8 +7,11 @@ ghost use lib.ListN.{length};
 ghost use Rattle.iff.specs.Tables.{rowAt, rowWidth, isHashRow};
 ghost use Rattle.iff.specs.declared.File.the-variants.{Timetbls};
 ghost use Rattle.iff_rules.specs.Meaning.{mostStops};
+ghost use Rattle.iff_desk.specs.Sound.{distinct};
+ghost use Rattle.keys.specs.Lookup.{keysAmong};
 ghost use Rattle.sound_block_rows.specs.Told.{RowTold};
 ghost use Rattle.sound_blocks.specs.Walk.{usedIn, BlockAt, BlockWalked, BlockTold, BlocksTold};
+ghost use Rattle.sound_blocks.specs.Services.{ServiceAt, ServicePut, AllGone, EndTold};
 
 // Where the rows of a block lead, each of them sound, and the row behind them; or that one is not.
 pub enum Walked {
@@ -166,8 +169,67 @@ fn test_block(
     Tested::Sound(to)
 }
 
+// So many services are put into the index, the first ones: half of its slots are then left for the keys of other tables, and for those services that
+// CHANGES names. Where slots are full, each key more is searched for among all rows before it.
+const INDEXED: u64 = 65536;
+
+// The service of the block in row `i`, after `done` others: it is tested and put into the index, or where that has enough, only the run of the keys
+// goes on.
+fn index_service(
+    t: &[u64],
+    i: usize,
+    done: u64,
+    run: fresh_keys::KeyRun,
+    places: &mut [u32],
+) -> index::Next
+    requires { ⌜ ServiceAt (now t) done run i (now places) ⌝ }
+    ensures { λ r. ⌜ ServicePut (now (t .entry)) done run i (now (places .entry)) (now (places .exit)) r ⌝ }
+{
+    if done < INDEXED {
+        return index::index_row(iff::File::Timetbls, t, i, run, places);
+    }
+    let service = tables::word_at(t, tables::BLOCK_WIDTH, i, iff::words::NAMED);
+    index::Next::Goes(fresh_keys::next_run(run, service))
+}
+
+// No service comes twice. While all were put into the index, each was new; of more of them, walks over the whole table tell, and where those do not,
+// the index.
+fn are_distinct(t: &[u64], used: usize, done: u64, places: &mut [u32]) -> bool
+    requires { ⌜ AllGone (now t) used done ⌝ }
+    ensures { λ r. ⌜ (r ≡ distinct (keysAmong Timetbls used (now (t .entry)))) × (length (now (places .exit)) ≡ length (now (places .entry))) ⌝ }
+{
+    if done <= INDEXED {
+        return true;
+    }
+    match repeats::first_repeat(t, used, done) {
+        repeats::Repeats::Never => true,
+        repeats::Repeats::First(_) => false,
+        repeats::Repeats::Untold => {
+            let are = index::index_keys(iff::File::Timetbls, t, used, places);
+            are.distinct
+        }
+    }
+}
+
+// The end of the rows in use, all blocks before it sound.
+fn tell_services(
+    t: &[u64],
+    used: usize,
+    done: u64,
+    run: fresh_keys::KeyRun,
+    places: &mut [u32],
+) -> BlocksAre
+    requires { ⌜ AllGone (now t) used done ⌝ }
+    ensures { λ r. ⌜ EndTold (now (t .entry)) used run r × (length (now (places .exit)) ≡ length (now (places .entry))) ⌝ }
+{
+    if are_distinct(t, used, done, places) {
+        return BlocksAre::Sound(used, run.rises);
+    }
+    BlocksAre::Unsound
+}
+
 // All blocks, each of which begins with a `#`, up to the end of the rows in use, which is found on the way. So is each block's service tested and put
-// into the index, while its row is at hand; the rows behind it up to the next `#` name nothing.
+// into the index, while its row is at hand and the index has not enough; the rows behind it up to the next `#` name nothing.
 pub fn are_blocks_sound(
     t: &[u64],
     counts: references::BlockCounts,
@@ -183,11 +245,12 @@ pub fn are_blocks_sound(
 {
     let room = t.len() / tables::BLOCK_WIDTH;
     let mut run = fresh_keys::no_keys();
+    let mut done: u64 = 0;
     let mut i: usize = 1;
     while i < room {
         let tag = tables::word_at(t, tables::BLOCK_WIDTH, i, iff::words::TAG);
         if tag == 0 {
-            return BlocksAre::Sound(i, run.rises);
+            return tell_services(t, i, done, run, places);
         }
         if tag != iff::tags::HASH {
             return BlocksAre::Unsound;
@@ -204,12 +267,12 @@ pub fn are_blocks_sound(
         ) else {
             return BlocksAre::Unsound;
         };
-        let index::Next::Goes(next) = index::index_row(iff::File::Timetbls, t, i, run, places)
-        else {
+        let index::Next::Goes(next) = index_service(t, i, done, run, places) else {
             return BlocksAre::Unsound;
         };
         run = next;
+        done += 1;
         i = end;
     }
-    BlocksAre::Sound(i, run.rises)
+    tell_services(t, i, done, run, places)
 }
