@@ -29,8 +29,8 @@ use Rattle.index.specs.declared.Next.the-variants.{Came, Goes}
 use Rattle.index.proofs.KeyLaws.{none-indexed, at-row, one-indexed, again-told, all-told, none-between}
 use Rattle.references.specs.declared.BlockCounts.{BlockCounts}
 use Rattle.walks.specs.Heads.{NextHead}
-use Rattle.sound_blocks.specs.Walk.{BlockTold, areSound, BlocksTold}
-use Rattle.sound_blocks.specs.Services.{mostIndexed, ServiceAt, ServicePut, AllGone, EndTold}
+use Rattle.sound_services.specs.Services.{mostIndexed, ServiceAt, ServicePut, AllGone}
+use Rattle.sound_blocks.specs.Walk.{BlockTold, areSound, BlocksTold, EndTold}
 use Rattle.sound_blocks.specs.declared.Tested.{Tested}
 use Rattle.sound_blocks.specs.declared.Tested.the-variants as tested
 use Rattle.sound_blocks.specs.declared.BlocksAre.{BlocksAre}

@@ -13,6 +13,7 @@ use Rattle.iff_rules.specs.Legs.{stopsOf}
 use Rattle.iff_rules.specs.Rows.{Context}
 use Rattle.iff_rules.specs.Load.{blockStart}
 use Rattle.iff_desk.specs.Sound.{passes, soundBlockRow, nextRow, rowsStart, standAfterRows, soundBlock, soundTimetbls, distinct}
+use Rattle.fresh_keys.specs.declared.KeyRun.{KeyRun}
 use Rattle.keys.specs.Blocks.{rowsBetween}
 use Rattle.keys.specs.Lookup.{keysAmong}
 use Rattle.references.specs.declared.BlockCounts.{BlockCounts}
@@ -82,3 +83,9 @@ pub record BlocksTold (counts : BlockCounts) (co mo st fo t : List ℕ) (used : 
       → areSound r ≡ (soundTimetbls c (rowsOf t 1 used) && distinct (keysAmong Timetbls used t))
   pub rows : (n : ℕ) (b : Bool) → r ≡ blocks.Sound n b → n ≡ used
   pub rise : (n : ℕ) (b : Bool) → r ≡ blocks.Sound n b → b ≡ rising (keysAmong Timetbls used t)
+
+-- whether no service comes twice, and where that is so, how many rows are in use and whether the keys rose
+pub record EndTold (t : List ℕ) (used : ℕ) (run : KeyRun) (r : BlocksAre) : Type 0 where
+  pub says : areSound r ≡ distinct (keysAmong Timetbls used t)
+  pub rows : (n : ℕ) (b : Bool) → r ≡ blocks.Sound n b → n ≡ used
+  pub rise : (n : ℕ) (b : Bool) → r ≡ blocks.Sound n b → b ≡ run .rises

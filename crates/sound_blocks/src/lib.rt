@@ -7,11 +7,9 @@ ghost use lib.ListN.{length};
 ghost use Rattle.iff.specs.Tables.{rowAt, rowWidth, isHashRow};
 ghost use Rattle.iff.specs.declared.File.the-variants.{Timetbls};
 ghost use Rattle.iff_rules.specs.Meaning.{mostStops};
-ghost use Rattle.iff_desk.specs.Sound.{distinct};
-ghost use Rattle.keys.specs.Lookup.{keysAmong};
 ghost use Rattle.sound_block_rows.specs.Told.{RowTold};
-ghost use Rattle.sound_blocks.specs.Walk.{usedIn, BlockAt, BlockWalked, BlockTold, BlocksTold};
-ghost use Rattle.sound_blocks.specs.Services.{ServiceAt, ServicePut, AllGone, EndTold};
+ghost use Rattle.sound_services.specs.Services.{AllGone};
+ghost use Rattle.sound_blocks.specs.Walk.{usedIn, BlockAt, BlockWalked, BlockTold, BlocksTold, EndTold};
 
 // Where the rows of a block lead, each of them sound, and the row behind them; or that one is not.
 pub enum Walked {
@@ -169,48 +167,6 @@ fn test_block(
     Tested::Sound(to)
 }
 
-// So many services are put into the index, the first ones: half of its slots are then left for the keys of other tables, and for those services that
-// CHANGES names. Where slots are full, each key more is searched for among all rows before it.
-const INDEXED: u64 = 65536;
-
-// The service of the block in row `i`, after `done` others: it is tested and put into the index, or where that has enough, only the run of the keys
-// goes on.
-fn index_service(
-    t: &[u64],
-    i: usize,
-    done: u64,
-    run: fresh_keys::KeyRun,
-    places: &mut [u32],
-) -> index::Next
-    requires { ⌜ ServiceAt (now t) done run i (now places) ⌝ }
-    ensures { λ r. ⌜ ServicePut (now (t .entry)) done run i (now (places .entry)) (now (places .exit)) r ⌝ }
-{
-    if done < INDEXED {
-        return index::index_row(iff::File::Timetbls, t, i, run, places);
-    }
-    let service = tables::word_at(t, tables::BLOCK_WIDTH, i, iff::words::NAMED);
-    index::Next::Goes(fresh_keys::next_run(run, service))
-}
-
-// No service comes twice. While all were put into the index, each was new; of more of them, walks over the whole table tell, and where those do not,
-// the index.
-fn are_distinct(t: &[u64], used: usize, done: u64, places: &mut [u32]) -> bool
-    requires { ⌜ AllGone (now t) used done ⌝ }
-    ensures { λ r. ⌜ (r ≡ distinct (keysAmong Timetbls used (now (t .entry)))) × (length (now (places .exit)) ≡ length (now (places .entry))) ⌝ }
-{
-    if done <= INDEXED {
-        return true;
-    }
-    match repeats::first_repeat(t, used, done) {
-        repeats::Repeats::Never => true,
-        repeats::Repeats::First(_) => false,
-        repeats::Repeats::Untold => {
-            let are = index::index_keys(iff::File::Timetbls, t, used, places);
-            are.distinct
-        }
-    }
-}
-
 // The end of the rows in use, all blocks before it sound.
 fn tell_services(
     t: &[u64],
@@ -222,7 +178,7 @@ fn tell_services(
     requires { ⌜ AllGone (now t) used done ⌝ }
     ensures { λ r. ⌜ EndTold (now (t .entry)) used run r × (length (now (places .exit)) ≡ length (now (places .entry))) ⌝ }
 {
-    if are_distinct(t, used, done, places) {
+    if sound_services::are_distinct(t, used, done, places) {
         return BlocksAre::Sound(used, run.rises);
     }
     BlocksAre::Unsound
@@ -267,7 +223,7 @@ pub fn are_blocks_sound(
         ) else {
             return BlocksAre::Unsound;
         };
-        let index::Next::Goes(next) = index_service(t, i, done, run, places) else {
+        let index::Next::Goes(next) = sound_services::index_service(t, i, done, run, places) else {
             return BlocksAre::Unsound;
         };
         run = next;

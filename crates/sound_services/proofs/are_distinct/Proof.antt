@@ -5,8 +5,8 @@ use borrow.Author.Needs.{needs}
 use Rattle.iff.specs.declared.File.the-variants.{Timetbls}
 use Rattle.keys.specs.Lookup.{keysAmong}
 use Rattle.repeats.proofs.KeyLaws.{again-not-distinct}
-use Rattle.sound_blocks.proofs.are_distinct.Statement.{statement}
-use Rattle.sound_blocks.proofs.are_distinct.Tie as tie
+use Rattle.sound_services.proofs.are_distinct.Statement.{statement}
+use Rattle.sound_services.proofs.are_distinct.Tie as tie
 
 returns : tie.Need-returns
 returns c = (sym (c .before .before .before .pre .new (omega (arith, c .if1 .taken))), refl)

@@ -2,7 +2,7 @@
 use Prim.Native.Nat.{ℕ, _+_, _*_, _≤_, _<_}
 use mathlib.Core.Path.{_≡_}
 use mathlib.Core.List.{List}
-use mathlib.Core.Bool.{Bool, true, false}
+use mathlib.Core.Bool.{true, false}
 use lib.ListN.{length}
 use Rattle.iff.specs.Tables.{rowAt, rowWidth, isHashRow}
 use Rattle.iff.specs.declared.File.the-variants.{Timetbls}
@@ -14,9 +14,6 @@ use Rattle.index.specs.Slots.{keyAt}
 use Rattle.index.specs.Keying.{AtRow, RowPut}
 use Rattle.index.specs.declared.Next.{Next}
 use Rattle.index.specs.declared.Next.the-variants.{Goes}
-use Rattle.sound_blocks.specs.Walk.{areSound}
-use Rattle.sound_blocks.specs.declared.BlocksAre.{BlocksAre}
-use Rattle.sound_blocks.specs.declared.BlocksAre.the-variants.{Sound}
 
 -- so many are put into the index
 abbrev pub mostIndexed : ℕ
@@ -38,9 +35,3 @@ pub record AllGone (t : List ℕ) (used done : ℕ) : Type 0 where
   pub inside : used * rowWidth Timetbls ≤ length t
   pub first : isHashRow (rowAt (rowWidth Timetbls) t 0) ≡ false
   pub new : done ≤ mostIndexed → distinct (keysAmong Timetbls used t) ≡ true
-
--- whether no service comes twice, and where that is so, how many rows are in use and whether the keys rose
-pub record EndTold (t : List ℕ) (used : ℕ) (run : KeyRun) (r : BlocksAre) : Type 0 where
-  pub says : areSound r ≡ distinct (keysAmong Timetbls used t)
-  pub rows : (n : ℕ) (b : Bool) → r ≡ Sound n b → n ≡ used
-  pub rise : (n : ℕ) (b : Bool) → r ≡ Sound n b → b ≡ run .rises

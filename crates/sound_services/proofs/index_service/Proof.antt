@@ -4,8 +4,8 @@ use native.Mathlib.Omega.{arith}
 use borrow.Author.Needs.{needs}
 use Rattle.fresh_keys.specs.Runs.{stepRun}
 use Rattle.index.specs.declared.Next.the-variants.{Goes}
-use Rattle.sound_blocks.proofs.index_service.Statement.{statement}
-use Rattle.sound_blocks.proofs.index_service.Tie as tie
+use Rattle.sound_services.proofs.index_service.Statement.{statement}
+use Rattle.sound_services.proofs.index_service.Tie as tie
 
 index-row-requires : tie.Need-index-row-requires
 index-row-requires c κs =
