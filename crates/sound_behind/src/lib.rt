@@ -107,7 +107,7 @@ pub fn judge_blocks(
     if tables::word_or_zero(t, words::TAG) != tags::AT {
         return Judged::Wrong;
     }
-    let sound_blocks::BlocksAre::Sound(used, rise) = sound_blocks::are_blocks_sound(
+    let sound_timetbls::BlocksAre::Sound(used, rise) = sound_timetbls::are_blocks_sound(
         t,
         counts,
         companies,

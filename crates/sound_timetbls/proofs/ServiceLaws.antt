@@ -30,12 +30,13 @@ use Rattle.index.proofs.KeyLaws.{none-indexed, at-row, one-indexed, again-told,
 use Rattle.references.specs.declared.BlockCounts.{BlockCounts}
 use Rattle.walks.specs.Heads.{NextHead}
 use Rattle.sound_services.specs.Services.{mostIndexed, ServiceAt, ServicePut, AllGone}
-use Rattle.sound_blocks.specs.Walk.{BlockTold, areSound, BlocksTold, EndTold}
+use Rattle.sound_blocks.specs.Walk.{BlockTold}
+use Rattle.sound_timetbls.specs.Told.{areSound, BlocksTold, EndTold}
 use Rattle.sound_blocks.specs.declared.Tested.{Tested}
 use Rattle.sound_blocks.specs.declared.Tested.the-variants as tested
-use Rattle.sound_blocks.specs.declared.BlocksAre.{BlocksAre}
-use Rattle.sound_blocks.specs.declared.BlocksAre.the-variants.{Sound, Unsound}
+use Rattle.sound_timetbls.specs.declared.BlocksAre.{BlocksAre}
+use Rattle.sound_timetbls.specs.declared.BlocksAre.the-variants.{Sound, Unsound}
 use Rattle.sound_blocks.proofs.BlockLaws.{Left, AllSays, stray, starts, ends, unsound-block, goes-on}
 
 -- no row before the next `#` is one
 none-in-front : (rs : List Row) → any isHashRow (front isHashRow rs) ≡ false

@@ -1,8 +1,8 @@
 -- `tell_services` meets its contract. Assumes nothing.
 use borrow.Author.Needs.{needs}
-use Rattle.sound_blocks.proofs.ServiceLaws.{once, twice}
-use Rattle.sound_blocks.proofs.tell_services.Statement.{statement}
-use Rattle.sound_blocks.proofs.tell_services.Tie as tie
+use Rattle.sound_timetbls.proofs.ServiceLaws.{once, twice}
+use Rattle.sound_timetbls.proofs.tell_services.Statement.{statement}
+use Rattle.sound_timetbls.proofs.tell_services.Tie as tie
 
 returns : tie.Need-returns
 returns c =
