@@ -118,7 +118,7 @@ fn add_blocks(
     }
 }
 
-// The table as it was before the first block.
+// What stands behind the first row is cleared: the table is as it was before the first block.
 fn clear_blocks(t: &mut [u64])
     requires { ⌜ rowWidth Timetbls ≤ length (now t) ⌝ }
     ensures { λ _. ⌜ now (t .exit) ≡ firstAlone (now (t .entry)) ⌝ }
@@ -127,8 +127,8 @@ fn clear_blocks(t: &mut [u64])
     tables::clear(&mut t[behind..]);
 }
 
-// The same with the first service that came twice found out at the end, where not each was told to be new. Where even that cannot be told, all is read
-// again with a search for each.
+// The blocks, with the first service that came twice found out at the end, where not each was told to be new. Its block was put, so nothing else is
+// wrong with it, and no block before it is at fault. Where that cannot be told, all is read again with a search for each.
 fn walk_blocks(
     text: &[u8],
     from: usize,
