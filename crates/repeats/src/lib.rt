@@ -139,7 +139,7 @@ fn walk_class(
 }
 
 // How many slots a set has.
-const SLOTS: usize = 200000;
+const SLOTS: usize = 215000;
 
 // The same with a set of its own.
 fn ask_class(t: &[u64], used: usize, upto: usize, classes: u64, class: u64) -> Asked
@@ -150,15 +150,18 @@ fn ask_class(t: &[u64], used: usize, upto: usize, classes: u64, class: u64) -> A
     walk_class(t, used, upto, classes, class, &mut set)
 }
 
-// So many classes that each fills about three quarters of a set at the most. There are no more services than rows, whatever is said of them.
+// About so many services are a class. What they leave of the slots stays free, so that a free one is met soon.
+const CLASS_SIZE: u64 = 170000;
+
+// So many classes that each fits a set. There are no more services than rows, whatever is said of them.
 fn class_count(used: usize, count: u64) -> u64
     ensures { λ r. ⌜ 0 < r ⌝ }
 {
     let rows = used as u64;
     if count < rows {
-        return count / 150000 + 1;
+        return count / CLASS_SIZE + 1;
     }
-    rows / 150000 + 1
+    rows / CLASS_SIZE + 1
 }
 
 // `count` says about how many services there are; it is a hint alone. Once one is found that came before, later classes are asked only for the

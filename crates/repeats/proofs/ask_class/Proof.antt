@@ -7,7 +7,7 @@ use Rattle.repeats.proofs.ask_class.Tie as tie
 walk-class-requires : tie.Need-walk-class-requires
 walk-class-requires c κs =
     let s = c .before .before in
-    (s .pre .0, s .pre .1, all-free 200000)
+    (s .pre .0, s .pre .1, all-free 215000)
 
 pub ask-class-spec : {M : Type 1} → statement M
 ask-class-spec = tie.close (tie.spec (λ c. search needs) walk-class-requires (λ c. search needs))
