@@ -56,7 +56,7 @@ fn find_side(timetbls: &[u64], used: usize, places: &[u32], call: Call) -> SideR
     ensures { λ r. ⌜ SideFor (now (timetbls .entry)) call r ⌝ }
 {
     let part = store::find_group(File::Timetbls, timetbls, used, places, call.service);
-    let row = store::stop_row(timetbls, part, call.stop);
+    let row = service_rows::stop_row(timetbls, part, call.stop);
     SideRows {
         part: part,
         row: row,
@@ -515,7 +515,7 @@ fn asked_from(
         service_places,
         v.service,
     );
-    let right = may_end(v.stop, store::count_stops(timetbls, part));
+    let right = may_end(v.stop, service_rows::count_stops(timetbls, part));
     running::asked(delivery, counts.delivery, part, right, v.date)
 }
 

@@ -60,7 +60,7 @@ pub fn may_alight(t: &[u64], part: Part, number: u64, day: u64) -> bool
     requires { ⌜ Inside (rowWidth Timetbls) (now t) part ⌝ }
     ensures { λ r. ⌜ ((R : PerFile (List Row)) → r ≡ mayAlight R (rowsOf (rowWidth Timetbls) (now (t .entry)) part) number day) ⌝ }
 {
-    let row = store::stop_row(t, part, number);
+    let row = service_rows::stop_row(t, part, number);
     arrival_of(t, row) != NO_TIME
 }
 
@@ -68,7 +68,7 @@ pub fn may_board(t: &[u64], part: Part, number: u64, day: u64) -> bool
     requires { ⌜ Inside (rowWidth Timetbls) (now t) part ⌝ }
     ensures { λ r. ⌜ ((R : PerFile (List Row)) → r ≡ mayBoard R (rowsOf (rowWidth Timetbls) (now (t .entry)) part) number day) ⌝ }
 {
-    let row = store::stop_row(t, part, number);
+    let row = service_rows::stop_row(t, part, number);
     departure_of(t, row) != NO_TIME
 }
 
@@ -131,7 +131,7 @@ pub fn period_by_number(
 {
     let row = store::find_station(stations, stations_used, station_places, station);
     let zone = store::word_of(stations, store::STATION_WIDTH, row, words::STATION_ZONE);
-    store::find_period(zones, zones_used, zone_places, zone, number)
+    periods::find_period(zones, zones_used, zone_places, zone, number)
 }
 
 // A period that was looked for is there.
@@ -162,7 +162,7 @@ pub fn is_stop_number(timetbls: &[u64], part: Part, number: u64) -> bool
     if number < 1 {
         return false;
     }
-    number <= store::count_stops(timetbls, part)
+    number <= service_rows::count_stops(timetbls, part)
 }
 
 // The times of a stop's row on a date, by the period of its station's own zone: 15 where none holds the day.
@@ -252,7 +252,7 @@ pub fn stop_time_in(
     match running::asked(delivery, delivery_used, part, right, date) {
         Test::Fails(reason) => StopTime::StopTimeRefused(reason),
         Test::Passes => {
-            let row = store::stop_row(timetbls, part, number);
+            let row = service_rows::stop_row(timetbls, part, number);
             times_there(
                 timetbls,
                 row,
