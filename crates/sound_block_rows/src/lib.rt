@@ -116,7 +116,7 @@ fn is_transport(mode: u64, rest: bool, used: usize, modes: &[u64], places: &[u32
     ensures { λ r. ⌜ r ≡ (((codeRight 4 mode && true) && rest)
         && has mode (keysAmong (Rows Trnsmode) used (now (modes .entry)))) ⌝ }
 {
-    if !shapes::is_code(mode, 4) {
+    if !codes::is_code(mode, 4) {
         return false;
     }
     if !rest {
@@ -137,7 +137,7 @@ fn is_attribute(
     ensures { λ r. ⌜ r ≡ (((codeRight 4 code && (ltb footnote 100000 && true)) && rest)
         && has footnote (keysAmong (Groups Footnote) used (now (footnotes .entry)))) ⌝ }
 {
-    if !shapes::is_code(code, 4) {
+    if !codes::is_code(code, 4) {
         return false;
     }
     if 100000 <= footnote {
@@ -169,7 +169,7 @@ fn is_interval(
     ensures { λ r. ⌜ r ≡ (((codeRight 7 station && (ltb arrival 10000 && (ltb departure 10000 && true))) && rest)
         && (means && has station (keysAmong (Rows Stations) used (now (stations .entry))))) ⌝ }
 {
-    if !shapes::is_code(station, 7) {
+    if !codes::is_code(station, 7) {
         return false;
     }
     if 10000 <= arrival {
@@ -198,7 +198,7 @@ fn is_passed(station: u64, rest: bool, used: usize, stations: &[u64], places: &[
     ensures { λ r. ⌜ r ≡ (((codeRight 7 station && true) && rest)
         && has station (keysAmong (Rows Stations) used (now (stations .entry)))) ⌝ }
 {
-    if !shapes::is_code(station, 7) {
+    if !codes::is_code(station, 7) {
         return false;
     }
     if !rest {
@@ -246,7 +246,7 @@ fn is_plain_stop(
     ensures { λ r. ⌜ r ≡ (((codeRight 7 station && (ltb time 10000 && true)) && rest)
         && (means && has station (keysAmong (Rows Stations) used (now (stations .entry))))) ⌝ }
 {
-    if !shapes::is_code(station, 7) {
+    if !codes::is_code(station, 7) {
         return false;
     }
     if 10000 <= time {

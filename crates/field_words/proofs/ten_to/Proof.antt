@@ -2,8 +2,8 @@
 use mathlib.Core.Path.{_≡_}
 use native.Mathlib.Omega.{arith}
 use Rattle.records.proofs.FieldLaws.{past}
-use Rattle.shapes.proofs.ten_to.Statement.{statement}
-use Rattle.shapes.proofs.ten_to.Tie as tie
+use Rattle.field_words.proofs.ten_to.Statement.{statement}
+use Rattle.field_words.proofs.ten_to.Tie as tie
 
 returns-9 : tie.Need-returns-9
 returns-9 c =

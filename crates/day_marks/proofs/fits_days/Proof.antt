@@ -1,9 +1,9 @@
 -- A word of marks halved as often as there are days left is none where it has no mark beyond them. Assumes nothing.
 use native.Mathlib.Omega.{arith}
 use borrow.Author.Needs.{needs}
-use Rattle.shapes.proofs.CodeLaws.{Halving, halve-begin, halve-on, halve-long, halve-end, all-days}
-use Rattle.shapes.proofs.fits_days.Statement.{statement}
-use Rattle.shapes.proofs.fits_days.Tie as tie
+use Rattle.day_marks.proofs.MarkLaws.{Halving, halve-begin, halve-on, halve-long, halve-end, all-days}
+use Rattle.day_marks.proofs.fits_days.Statement.{statement}
+use Rattle.day_marks.proofs.fits_days.Tie as tie
 
 abbrev Inv-loop : tie.InvT-loop
 Inv-loop word days rest₀ marks₀ rest marks = Halving word days rest marks

@@ -3,9 +3,9 @@ use mathlib.Core.Path.{sym, _∙_}
 use native.Mathlib.Omega.{arith}
 use borrow.Author.Needs.{needs}
 use borrow.Author.Tests.{not-true, not-false}
-use Rattle.shapes.proofs.CodeLaws.{Coding, code-begin, code-fails, code-on, code-long, code-end}
-use Rattle.shapes.proofs.is_code.Statement.{statement}
-use Rattle.shapes.proofs.is_code.Tie as tie
+use Rattle.codes.proofs.CodeLaws.{Coding, code-begin, code-fails, code-on, code-long, code-end}
+use Rattle.codes.proofs.is_code.Statement.{statement}
+use Rattle.codes.proofs.is_code.Tie as tie
 
 abbrev Inv-loop : tie.InvT-loop
 Inv-loop word width left₀ columns₀ blank₀ left columns blank = Coding word width left columns blank

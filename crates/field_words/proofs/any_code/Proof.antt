@@ -2,9 +2,9 @@
 use mathlib.Core.Path.{ap, sym, _∙_}
 use borrow.Author.Needs.{needs}
 use Rattle.iff.specs.Values.{codeOf}
-use Rattle.shapes.proofs.CodeLaws.{wild-front, wild-length}
-use Rattle.shapes.proofs.any_code.Statement.{statement}
-use Rattle.shapes.proofs.any_code.Tie as tie
+use Rattle.field_words.proofs.WildLaws.{wild-front, wild-length}
+use Rattle.field_words.proofs.any_code.Statement.{statement}
+use Rattle.field_words.proofs.any_code.Tie as tie
 
 pub any-code-spec : {M : Type 1} → statement M
 any-code-spec =

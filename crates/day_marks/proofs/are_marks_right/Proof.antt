@@ -4,9 +4,9 @@ use mathlib.Core.Path.{sym, _∙_}
 use borrow.Author.Needs.{needs}
 use borrow.Author.Tests.{not-true, not-false}
 use Rattle.iff.specs.Values.{vectorWidth}
-use Rattle.shapes.proofs.WordLaws.{Reading, read-begin, read-fails, read-on, read-end}
-use Rattle.shapes.proofs.are_marks_right.Statement.{statement}
-use Rattle.shapes.proofs.are_marks_right.Tie as tie
+use Rattle.day_marks.proofs.MarkLaws.{Reading, read-begin, read-fails, read-on, read-end}
+use Rattle.day_marks.proofs.are_marks_right.Statement.{statement}
+use Rattle.day_marks.proofs.are_marks_right.Tie as tie
 
 abbrev Inv-loop : tie.InvT-loop
 Inv-loop row days left₀ i₀ left i = Reading row days left i

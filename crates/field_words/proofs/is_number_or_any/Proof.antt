@@ -1,8 +1,8 @@
 -- The two tests, in order. Assumes nothing.
 use borrow.Author.Needs.{needs}
 use borrow.Author.Tests.{lt-ltb, le-ltb}
-use Rattle.shapes.proofs.is_number_or_any.Statement.{statement}
-use Rattle.shapes.proofs.is_number_or_any.Tie as tie
+use Rattle.field_words.proofs.is_number_or_any.Statement.{statement}
+use Rattle.field_words.proofs.is_number_or_any.Tie as tie
 
 pub is-number-or-any-spec : {M : Type 1} → statement M
 is-number-or-any-spec =

@@ -1,9 +1,9 @@
 -- The test of each class. Assumes nothing.
 use borrow.Author.Needs.{needs}
 use borrow.Author.Tests.{ne-eqb}
-use Rattle.shapes.specs.Entries.{wordFits}
-use Rattle.shapes.proofs.fits_class.Statement.{statement}
-use Rattle.shapes.proofs.fits_class.Tie as tie
+use Rattle.field_words.specs.Fits.{wordFits}
+use Rattle.field_words.proofs.fits_class.Statement.{statement}
+use Rattle.field_words.proofs.fits_class.Tie as tie
 
 pub fits-class-spec : {M : Type 1} → statement M
 unfolding wordFits
