@@ -4,9 +4,9 @@ use borrow.Author.Needs.{needs}
 use Rattle.iff.specs.Tables.{rowWidth}
 use Rattle.iff.specs.declared.File.the-variants.{Timetbls}
 use Rattle.iff_rules.specs.Legs.{reachOf, inRange}
-use Rattle.row_legs.proofs.WalkLaws.{part-row}
-use Rattle.row_legs.proofs.in_range_at.Statement.{statement}
-use Rattle.row_legs.proofs.in_range_at.Tie as tie
+use Rattle.linked_legs.proofs.RowLaws.{part-row}
+use Rattle.linked_legs.proofs.in_range_at.Statement.{statement}
+use Rattle.linked_legs.proofs.in_range_at.Tie as tie
 
 returns : tie.Need-returns
 returns c =

@@ -8,10 +8,11 @@ use Rattle.iff.specs.Tables.{rowWidth}
 use Rattle.iff.specs.declared.File.the-variants.{Timetbls}
 use Rattle.iff_rules.specs.Legs.{reachOf, inRange}
 use Rattle.tables.proofs.Rows.{row-inside}
-use Rattle.row_legs.proofs.WalkLaws.{all-none, all-not, all-on}
-use Rattle.row_legs.proofs.LinkLaws.{linked-none, linked-not, linked-on, Linking, linking-first, range-fails, numbers-fail, validities-fail, modes-fail, all-hold}
-use Rattle.row_legs.proofs.are_all_linked.Statement.{statement}
-use Rattle.row_legs.proofs.are_all_linked.Tie as tie
+use Rattle.linked_legs.proofs.RowLaws.{all-none, all-not, all-on}
+use Rattle.linked_legs.proofs.LinkingLaws.{linked-none, linked-not, linked-on, Linking, linking-first}
+use Rattle.linked_legs.proofs.LinkingLaws.{range-fails, numbers-fail, validities-fail, modes-fail, all-hold}
+use Rattle.linked_legs.proofs.are_all_linked.Statement.{statement}
+use Rattle.linked_legs.proofs.are_all_linked.Tie as tie
 
 abbrev Inv-loop : tie.InvT-loop
 Inv-loop t from to n number₀ validity₀ mode₀ i₀ number validity mode i = Linking t from to n i number validity mode
@@ -123,7 +124,8 @@ returns-5 c =
     let a = s .args in
     let p = l .loop .inv in
     numbers-fail (a .t .now) (a .from) (a .to) (a .n)
-    (p .numbers ∙ linked-none percent (a .n) (a .t .now) (l .loop .i) (a .to) (l .loop .number) (t .loop-test .left) ∙ ne-eqb (l .loop .number) (a .n) (c .if5 .taken))
+    (p .numbers ∙ linked-none percent (a .n) (a .t .now) (l .loop .i) (a .to) (l .loop .number) (t .loop-test .left)
+    ∙ ne-eqb (l .loop .number) (a .n) (c .if5 .taken))
 
 returns-6 : tie.Need-returns-6 Inv-loop μ-loop
 returns-6 c =
@@ -133,7 +135,8 @@ returns-6 c =
     let a = s .args in
     let p = l .loop .inv in
     validities-fail (a .t .now) (a .from) (a .to) (a .n)
-    (p .validities ∙ linked-none dash (a .n) (a .t .now) (l .loop .i) (a .to) (l .loop .validity) (t .loop-test .left) ∙ ne-eqb (l .loop .validity) (a .n) (c .if6 .taken))
+    (p .validities ∙ linked-none dash (a .n) (a .t .now) (l .loop .i) (a .to) (l .loop .validity) (t .loop-test .left)
+    ∙ ne-eqb (l .loop .validity) (a .n) (c .if6 .taken))
 
 returns-7 : tie.Need-returns-7 Inv-loop μ-loop
 returns-7 c =
@@ -145,8 +148,10 @@ returns-7 c =
     sym (p .modes ∙ linked-none ampersand (a .n) (a .t .now) (l .loop .i) (a .to) (l .loop .mode) (t .loop-test .left))
     ∙ all-hold (a .t .now) (a .from) (a .to) (a .n)
     (p .ranged ∙ all-none (inRange reachOf (a .n)) (a .t .now) (l .loop .i) (a .to) (t .loop-test .left))
-    (p .numbers ∙ linked-none percent (a .n) (a .t .now) (l .loop .i) (a .to) (l .loop .number) (t .loop-test .left) ∙ eq-eqb (l .loop .number) (a .n) (c .before .if5 .left))
-    (p .validities ∙ linked-none dash (a .n) (a .t .now) (l .loop .i) (a .to) (l .loop .validity) (t .loop-test .left) ∙ eq-eqb (l .loop .validity) (a .n) (c .if6 .left))
+    (p .numbers ∙ linked-none percent (a .n) (a .t .now) (l .loop .i) (a .to) (l .loop .number) (t .loop-test .left)
+    ∙ eq-eqb (l .loop .number) (a .n) (c .before .if5 .left))
+    (p .validities ∙ linked-none dash (a .n) (a .t .now) (l .loop .i) (a .to) (l .loop .validity) (t .loop-test .left)
+    ∙ eq-eqb (l .loop .validity) (a .n) (c .if6 .left))
 
 pub are-all-linked-spec : {M : Type 1} → statement M
 are-all-linked-spec =

@@ -3,10 +3,10 @@ use mathlib.Core.Path.{ap, _∙_}
 use borrow.Author.Needs.{needs}
 use Rattle.iff.specs.Tables.{rowWidth}
 use Rattle.iff.specs.declared.File.the-variants.{Timetbls}
-use Rattle.row_legs.specs.Blocks.{stopAfter}
-use Rattle.row_legs.proofs.WalkLaws.{part-row}
-use Rattle.row_legs.proofs.stop_after_at.Statement.{statement}
-use Rattle.row_legs.proofs.stop_after_at.Tie as tie
+use Rattle.linked_legs.specs.Links.{stopAfter}
+use Rattle.linked_legs.proofs.RowLaws.{part-row}
+use Rattle.linked_legs.proofs.stop_after_at.Statement.{statement}
+use Rattle.linked_legs.proofs.stop_after_at.Tie as tie
 
 returns : tie.Need-returns
 returns c =

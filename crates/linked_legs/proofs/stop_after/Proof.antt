@@ -1,9 +1,9 @@
 -- `row_legs::stop_after` meets its contract: its tests are the definition's, in order. Assumes nothing.
 use native.Mathlib.Omega.{arith}
 use borrow.Author.Needs.{needs}
-use Rattle.row_legs.proofs.LinkLaws.{after-other, after-elsewhere, after-linked}
-use Rattle.row_legs.proofs.stop_after.Statement.{statement}
-use Rattle.row_legs.proofs.stop_after.Tie as tie
+use Rattle.linked_legs.proofs.LinkingLaws.{after-other, after-elsewhere, after-linked}
+use Rattle.linked_legs.proofs.stop_after.Statement.{statement}
+use Rattle.linked_legs.proofs.stop_after.Tie as tie
 
 returns : tie.Need-returns
 returns c =

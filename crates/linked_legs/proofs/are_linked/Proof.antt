@@ -5,10 +5,10 @@ use borrow.Author.Needs.{needs}
 use Rattle.iff.specs.Tables.{rowWidth}
 use Rattle.iff.specs.declared.File.the-variants.{Timetbls}
 use Rattle.tables.proofs.Rows.{row-inside}
-use Rattle.row_legs.specs.Blocks.{blockBetween, linked}
-use Rattle.row_legs.proofs.LinkLaws.{linked-none, linked-not, linked-on}
-use Rattle.row_legs.proofs.are_linked.Statement.{statement}
-use Rattle.row_legs.proofs.are_linked.Tie as tie
+use Rattle.linked_legs.specs.Links.{blockBetween, linked}
+use Rattle.linked_legs.proofs.LinkingLaws.{linked-none, linked-not, linked-on}
+use Rattle.linked_legs.proofs.are_linked.Statement.{statement}
+use Rattle.linked_legs.proofs.are_linked.Tie as tie
 
 abbrev Inv-loop : tie.InvT-loop
 Inv-loop t from to n kind at₀ i₀ at i = linked kind 1 n (blockBetween t from to) ≡ linked kind at n (blockBetween t i to)
