@@ -2,8 +2,8 @@
 use mathlib.Core.Path.{_≡_}
 use mathlib.Core.Bool.{true, and-true}
 use borrow.Author.Tests.{eq-eqb, ne-eqb}
-use Rattle.sound_block_rows.proofs.are_zero.Statement.{statement}
-use Rattle.sound_block_rows.proofs.are_zero.Tie as tie
+use Rattle.row_kinds.proofs.are_zero.Statement.{statement}
+use Rattle.row_kinds.proofs.are_zero.Tie as tie
 
 returns : tie.Need-returns
 returns c = let a = c .before .args in rw (ne-eqb 0 (a .a) (c .if1 .taken))

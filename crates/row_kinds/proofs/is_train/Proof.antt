@@ -2,8 +2,8 @@
 use native.Mathlib.Omega.{arith}
 use borrow.Author.Needs.{needs}
 use borrow.Author.Tests.{not-true, not-false, lt-ltb, le-ltb}
-use Rattle.sound_block_rows.proofs.is_train.Statement.{statement}
-use Rattle.sound_block_rows.proofs.is_train.Tie as tie
+use Rattle.row_kinds.proofs.is_train.Statement.{statement}
+use Rattle.row_kinds.proofs.is_train.Tie as tie
 
 returns : tie.Need-returns
 returns c = let a = c .before .before .before .args in rw (le-ltb (a .company) 1000 (omega (arith, c .if1 .taken)))

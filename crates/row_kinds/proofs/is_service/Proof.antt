@@ -1,8 +1,8 @@
 -- `is_service` meets its contract. Assumes nothing.
 use native.Mathlib.Omega.{arith}
 use borrow.Author.Tests.{lt-ltb, le-ltb}
-use Rattle.sound_block_rows.proofs.is_service.Statement.{statement}
-use Rattle.sound_block_rows.proofs.is_service.Tie as tie
+use Rattle.row_kinds.proofs.is_service.Statement.{statement}
+use Rattle.row_kinds.proofs.is_service.Tie as tie
 
 returns : tie.Need-returns
 returns c = rw (le-ltb (c .before .args .service) 100000000 (omega (arith, c .if1 .taken)))

@@ -1,8 +1,8 @@
 -- The tests of a row by the kind of its record, over the row's words. Assumes nothing.
 use Prim.Native.Nat.{ℕ}
-use mathlib.Core.Path.{_≡_, refl, ap, sym, _∙_}
-use mathlib.Core.List.{List, [], _∷_}
-use mathlib.Core.Bool.{Bool, true, false, _&&_}
+use mathlib.Core.Path.{_≡_, refl}
+use mathlib.Core.List.{[], _∷_}
+use mathlib.Core.Bool.{Bool, true, _&&_}
 use native.Mathlib.Omega.{arith}
 use borrow.Author.Tests.{ne-eqb}
 use lib.Dec.{eqb, ltb}
@@ -19,7 +19,7 @@ use Rattle.iff_rules.specs.Rows.{Context}
 use Rattle.iff_rules.specs.Meaning.{blockMeaning}
 use Rattle.iff_rules.specs.References.{metInBlock}
 use Rattle.iff_desk.specs.Sound.{shaped}
-use Rattle.sound_block_rows.specs.Told.{rowTests}
+use Rattle.row_tests.specs.Tests.{rowTests}
 
 -- a row word by word
 abbrev pub sevenOf : ℕ → Row → Row

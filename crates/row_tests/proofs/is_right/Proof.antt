@@ -1,9 +1,9 @@
 -- `is_right` meets its contract: each arm is the law of a kind. Assumes nothing.
-use mathlib.Core.Path.{sym, _∙_}
 use borrow.Author.Needs.{needs}
-use Rattle.sound_block_rows.proofs.RowLaws.{service-row, train-row, validity-row, transport-row, attribute-row, interval-row, passed-row, platform-row, plain-row}
-use Rattle.sound_block_rows.proofs.is_right.Statement.{statement}
-use Rattle.sound_block_rows.proofs.is_right.Tie as tie
+use Rattle.row_tests.proofs.RowLaws.{service-row, train-row, validity-row, transport-row, attribute-row, interval-row}
+use Rattle.row_tests.proofs.RowLaws.{passed-row, platform-row, plain-row}
+use Rattle.row_tests.proofs.is_right.Statement.{statement}
+use Rattle.row_tests.proofs.is_right.Tie as tie
 
 returns : tie.Need-returns
 returns c k g =
