@@ -5,9 +5,9 @@ use Rattle.iff.specs.Files.{perFile}
 use Rattle.iff.specs.Tables.{rowsIn}
 use Rattle.iff.specs.declared.RowFile.the-variants.{Stations}
 use Rattle.iff.specs.declared.File.the-variants.{Rows}
-use Rattle.stop_times.proofs.TimeLaws.{zone-of}
-use Rattle.stop_times.proofs.period_by_number.Statement.{statement}
-use Rattle.stop_times.proofs.period_by_number.Tie as tie
+use Rattle.zone_times.proofs.ClockLaws.{zone-of}
+use Rattle.zone_times.proofs.period_by_number.Statement.{statement}
+use Rattle.zone_times.proofs.period_by_number.Tie as tie
 
 word-of-requires : tie.Need-word-of-requires
 word-of-requires c κs =

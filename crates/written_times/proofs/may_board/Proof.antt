@@ -1,8 +1,8 @@
 -- `may_board` meets its contract. Assumes nothing.
 use borrow.Author.Needs.{needs}
 use Rattle.iff_desk.specs.Stops.{mayBoard}
-use Rattle.stop_times.proofs.may_board.Statement.{statement}
-use Rattle.stop_times.proofs.may_board.Tie as tie
+use Rattle.written_times.proofs.may_board.Statement.{statement}
+use Rattle.written_times.proofs.may_board.Tie as tie
 
 departure-of-requires : tie.Need-departure-of-requires
 departure-of-requires c κs = c .stop-row .ensures .stands

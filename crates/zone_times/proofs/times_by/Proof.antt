@@ -4,9 +4,9 @@ use borrow.Author.Needs.{needs}
 use lib.Dec.{eqb}
 use Prim.Native.Nat.{ℕ}
 use Rattle.iff.specs.Bytes.{dash}
-use Rattle.stop_times.proofs.TimeLaws.{times-for}
-use Rattle.stop_times.proofs.times_by.Statement.{statement}
-use Rattle.stop_times.proofs.times_by.Tie as tie
+use Rattle.zone_times.proofs.ClockLaws.{times-for}
+use Rattle.zone_times.proofs.times_by.Statement.{statement}
+use Rattle.zone_times.proofs.times_by.Tie as tie
 
 clock-time-requires : tie.Need-clock-time-requires
 clock-time-requires c κs =

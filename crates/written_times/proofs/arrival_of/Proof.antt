@@ -2,8 +2,8 @@
 use mathlib.Core.Path.{_∙_}
 use borrow.Author.Needs.{needs}
 use borrow.Author.Tests.{eq-eqb, ne-eqb}
-use Rattle.stop_times.proofs.arrival_of.Statement.{statement}
-use Rattle.stop_times.proofs.arrival_of.Tie as tie
+use Rattle.written_times.proofs.arrival_of.Statement.{statement}
+use Rattle.written_times.proofs.arrival_of.Tie as tie
 
 returns : tie.Need-returns
 returns c = rw (← c .before .word-of .ensures, eq-eqb _ _ (c .if1 .taken))

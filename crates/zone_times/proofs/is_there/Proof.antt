@@ -1,7 +1,7 @@
 -- `is_there` meets its contract: a row in use has a tag. Assumes nothing.
 use borrow.Author.Needs.{needs}
-use Rattle.stop_times.proofs.is_there.Statement.{statement}
-use Rattle.stop_times.proofs.is_there.Tie as tie
+use Rattle.zone_times.proofs.is_there.Statement.{statement}
+use Rattle.zone_times.proofs.is_there.Tie as tie
 
 returns : tie.Need-returns
 returns c = rw (← c .word-of .ensures)

@@ -1,8 +1,8 @@
 -- `may_alight` meets its contract. Assumes nothing.
 use borrow.Author.Needs.{needs}
 use Rattle.iff_desk.specs.Stops.{mayAlight}
-use Rattle.stop_times.proofs.may_alight.Statement.{statement}
-use Rattle.stop_times.proofs.may_alight.Tie as tie
+use Rattle.written_times.proofs.may_alight.Statement.{statement}
+use Rattle.written_times.proofs.may_alight.Tie as tie
 
 arrival-of-requires : tie.Need-arrival-of-requires
 arrival-of-requires c κs = c .stop-row .ensures .stands

@@ -1,9 +1,9 @@
 -- `clock_time` meets its contract: a time's minutes are few, and the zone rule alone leaves the zone's clock. Assumes nothing.
 use mathlib.Core.Path.{sym, _∙_}
 use borrow.Author.Needs.{needs}
-use Rattle.stop_times.proofs.TimeLaws.{few-minutes, no-clock, on-clocks}
-use Rattle.stop_times.proofs.clock_time.Statement.{statement}
-use Rattle.stop_times.proofs.clock_time.Tie as tie
+use Rattle.zone_times.proofs.ClockLaws.{few-minutes, no-clock, on-clocks}
+use Rattle.zone_times.proofs.clock_time.Statement.{statement}
+use Rattle.zone_times.proofs.clock_time.Tie as tie
 
 returns : tie.Need-returns
 returns c =
