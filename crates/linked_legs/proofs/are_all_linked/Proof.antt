@@ -1,4 +1,4 @@
--- `row_legs::are_all_linked` meets its contract: what is left is the whole, of each test. Assumes nothing.
+-- `linked_legs::are_all_linked` meets its contract: what is left is the whole, of each test. Assumes nothing.
 use Prim.Native.Nat.{_-_}
 use mathlib.Core.Path.{sym, _∙_}
 use borrow.Author.Needs.{needs}

@@ -1,4 +1,4 @@
--- `row_legs::are_linked` meets its contract: what is left, from the stop come to, is the whole. Assumes nothing.
+-- `linked_legs::are_linked` meets its contract: what is left, from the stop come to, is the whole. Assumes nothing.
 use Prim.Native.Nat.{_-_}
 use mathlib.Core.Path.{_≡_, refl, sym, _∙_}
 use borrow.Author.Needs.{needs}

@@ -1,4 +1,4 @@
--- `row_legs::stop_after` meets its contract: its tests are the definition's, in order. Assumes nothing.
+-- `linked_legs::stop_after` meets its contract: its tests are the definition's, in order. Assumes nothing.
 use native.Mathlib.Omega.{arith}
 use borrow.Author.Needs.{needs}
 use Rattle.linked_legs.proofs.LinkingLaws.{after-other, after-elsewhere, after-linked}

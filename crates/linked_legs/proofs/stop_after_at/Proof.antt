@@ -1,4 +1,4 @@
--- `row_legs::stop_after_at` meets its contract: the part that is handed on is row i. Assumes nothing.
+-- `linked_legs::stop_after_at` meets its contract: the part that is handed on is row i. Assumes nothing.
 use mathlib.Core.Path.{ap, _∙_}
 use borrow.Author.Needs.{needs}
 use Rattle.iff.specs.Tables.{rowWidth}
