@@ -1,4 +1,2 @@
 pub mod CountLaws
-pub mod ReadLaws
-pub mod RepeatLaws
 pub mod StrayLaws

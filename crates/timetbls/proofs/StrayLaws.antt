@@ -16,7 +16,7 @@ use Rattle.iff_rules.specs.Order.{lineTest, knownInBlock}
 use Rattle.text.specs.declared.LineSpan.{LineSpan}
 use Rattle.text.specs.Spans.{spanLine, LineAt}
 use Rattle.text.proofs.LineLaws.{lines-end}
-use Rattle.timetbls.specs.Blocks.{StrayTold}
+use Rattle.block_walks.specs.Blocks.{StrayTold}
 use Rattle.block_ends.proofs.GroupLaws.{front-open, front-closed, front-nil}
 
 -- A LINE BEFORE THE FIRST BLOCK

@@ -1,4 +1,4 @@
--- What the reader of TIMETBLS asks and tells.
+-- What the walk over the blocks of TIMETBLS asks and tells.
 use Prim.Native.Nat.{ℕ, _+_, _-_, _*_, _≤_}
 use mathlib.Core.Path.{_≡_}
 use mathlib.Core.List.{List, [], _∷_, _++_}
@@ -28,10 +28,9 @@ use Rattle.block_puts.specs.Puts.{Holding, newVerdict}
 use Rattle.reading.specs.declared.RowsRead.{RowsRead}
 use Rattle.reading.specs.declared.RowsRead.the-variants.{AllRead, Stopped}
 use Rattle.reading.specs.Reading.{Begun, RowsDone, FileRead, rowsVerdict, risesOf}
-use Rattle.timetbls.specs.declared.Walk.{Walk}
-use Rattle.timetbls.specs.declared.BlocksPut.{BlocksPut}
-use Rattle.timetbls.specs.declared.BlocksPut.the-variants.{All, Refused}
-use Rattle.timetbls.specs.declared.TimetblsRead.{TimetblsRead}
+use Rattle.block_walks.specs.declared.Walk.{Walk}
+use Rattle.block_walks.specs.declared.BlocksPut.{BlocksPut}
+use Rattle.block_walks.specs.declared.BlocksPut.the-variants.{All, Refused}
 
 -- lines before the first block
 pub record StrayTold (ls : List Line) (r : Test) : Type 0 where
@@ -111,9 +110,3 @@ pub record BlocksRead (form : Form) (text : List ℕ) (from : ℕ) (co mo st fo 
       → RowsDone Timetbls form (λ c. BlockKeys c co mo st fo) (λ c. timetblsVerdict c (lines (drop from text))) first
       (blocksRows form (blocksOf (lines (drop from text)))) was is (asRead r)
   pub counted : (b : Bool) (n m : ℕ) → r ≡ All b n m → Counted is n m
-
--- the whole file, and the numbers where there is no fault
-pub record TimetblsDone (form : Form) (Agree : Context → Type 0) (header text : List ℕ) (v : Verdict) (was is : List ℕ)
-    (r : TimetblsRead) : Type 0 where
-  pub file : FileRead Timetbls form Agree header text v was is (r .verdict)
-  pub counted : fine (r .verdict) ≡ true → Counted is (r .rows) (r .services)

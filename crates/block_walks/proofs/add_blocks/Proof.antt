@@ -3,9 +3,9 @@ use Prim.Native.Nat.{_-_}
 use mathlib.Core.Path.{_≡_, sym, _∙_}
 use borrow.Author.Needs.{needs}
 use lib.ListN.{length}
-use Rattle.timetbls.proofs.ReadLaws.{Adding, adding-start, addable, adding-faulty, adding-next, adding-end}
-use Rattle.timetbls.proofs.add_blocks.Statement.{statement}
-use Rattle.timetbls.proofs.add_blocks.Tie as tie
+use Rattle.block_walks.proofs.ReadLaws.{Adding, adding-start, addable, adding-faulty, adding-next, adding-end}
+use Rattle.block_walks.proofs.add_blocks.Statement.{statement}
+use Rattle.block_walks.proofs.add_blocks.Tie as tie
 
 abbrev Inv-loop : tie.InvT-loop
 Inv-loop text from form marks₀ t₀ counts companies modes stations footnotes places search at₀ row₀ done₀ sure₀ run₀ marks t at row done sure run =

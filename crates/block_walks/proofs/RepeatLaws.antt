@@ -19,7 +19,7 @@ use Rattle.iff_laws.specs.ScanLaws.{or-nothing}
 use Rattle.iff_laws.specs.TruthLaws.{both}
 use Rattle.repeats.specs.Repeats.{FirstRepeat}
 use Rattle.block_puts.specs.Puts.{newVerdict}
-use Rattle.timetbls.specs.Blocks.{servicesVerdict}
+use Rattle.block_walks.specs.Blocks.{servicesVerdict}
 
 -- VERDICTS IN TURN
 pub or-assoc : (u v w : Verdict) → orElse u (orElse v w) ≡ orElse (orElse u v) w

@@ -40,18 +40,18 @@ use Rattle.reading.specs.Reading.{Begun, Split, RowsDone, rowsVerdict}
 use Rattle.block_rows.proofs.RowLaws.{rows-count, key-skips, keys-nil}
 use Rattle.block_puts.specs.declared.BlockPut.{BlockPut}
 use Rattle.block_puts.specs.declared.BlockPut.the-variants.{Kept, Faulty}
-use Rattle.timetbls.specs.declared.BlocksPut.{BlocksPut}
-use Rattle.timetbls.specs.declared.BlocksPut.the-variants.{All, Refused}
+use Rattle.block_walks.specs.declared.BlocksPut.{BlocksPut}
+use Rattle.block_walks.specs.declared.BlocksPut.the-variants.{All, Refused}
 use Rattle.block_ends.specs.Blocks.{part, Clean, NextBlock}
 use Rattle.block_puts.specs.Puts.{Holding, newVerdict, Addable, BlockAdded}
 use Rattle.block_puts.proofs.AgainLaws.{same-services}
 use Rattle.repeats.specs.declared.Repeats.{Repeats}
 use Rattle.repeats.specs.declared.Repeats.the-variants.{Never, First}
 use Rattle.repeats.specs.Repeats.{Told}
-use Rattle.timetbls.specs.declared.Walk.{Walk}
-use Rattle.timetbls.specs.Blocks.{StrayTold, servicesVerdict, blocksVerdict, BlocksReady, firstAlone, BlocksHeld, BlocksWalked}
-use Rattle.timetbls.specs.Blocks.{BlocksAdded, AfterFirst, BlocksRead, asRead}
-use Rattle.timetbls.proofs.RepeatLaws.{or-assoc, services-none, services-next, all-new, one-again}
+use Rattle.block_walks.specs.declared.Walk.{Walk}
+use Rattle.block_walks.specs.Blocks.{StrayTold, servicesVerdict, blocksVerdict, BlocksReady, firstAlone, BlocksHeld, BlocksWalked}
+use Rattle.block_walks.specs.Blocks.{BlocksAdded, AfterFirst, BlocksRead, asRead}
+use Rattle.block_walks.proofs.RepeatLaws.{or-assoc, services-none, services-next, all-new, one-again}
 
 abbrev width : ℕ
 width = rowWidth Timetbls
