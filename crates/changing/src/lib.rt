@@ -29,7 +29,7 @@ ghost use Rattle.iff_desk.specs.Store.{numberOn};
 ghost use Rattle.iff_desk.specs.Stops.{timesBy};
 ghost use Rattle.iff_desk.specs.Changing.{callOf, gapBetween, coreChange, precheck as precheckOf, changeAfter};
 ghost use Rattle.store.specs.Found.{Stored, rowsOf, rowOr, Inside};
-ghost use Rattle.stop_times.specs.Times.{FewMinutes};
+ghost use Rattle.zone_times.specs.Clocks.{FewMinutes};
 ghost use Rattle.needed_times.specs.Needed.{rowsFound};
 ghost use Rattle.changing.specs.Agree.{ZoneRows, NeedRows, RowsOf, ZonesReady, NeedReady, Ready, PeriodFor, Timed};
 ghost use Rattle.changing.specs.Sides.{SideFor, sideOf, stopFound, hurdleOf, runHurdle, stopHurdle, laterHurdle, isSame};
@@ -56,7 +56,7 @@ fn find_side(timetbls: &[u64], used: usize, places: &[u32], call: Call) -> SideR
     ensures { λ r. ⌜ SideFor (now (timetbls .entry)) call r ⌝ }
 {
     let part = store::find_group(File::Timetbls, timetbls, used, places, call.service);
-    let row = store::stop_row(timetbls, part, call.stop);
+    let row = service_rows::stop_row(timetbls, part, call.stop);
     SideRows {
         part: part,
         row: row,
@@ -91,7 +91,7 @@ fn period_on(
     ensures { λ r. ⌜ PeriodFor (now (delivery .entry)) (now (zones .entry)) (now (stations .entry)) station day r ⌝ }
 {
     let number = number_on(delivery, counts.delivery, day);
-    stop_times::period_by_number(
+    zone_times::period_by_number(
         zones,
         counts.timezone,
         places,
@@ -147,8 +147,8 @@ fn gap_between(
         «board_day»
         ⌝ }
 {
-    let there = stop_times::times_by(timetbls, alight, zones, alight_period);
-    let here = stop_times::times_by(timetbls, board, zones, board_period);
+    let there = zone_times::times_by(timetbls, alight, zones, alight_period);
+    let here = zone_times::times_by(timetbls, board, zones, board_period);
     let arrival = there.arrival;
     let departure = here.departure;
     gap_of(arrival, alight_day, departure, board_day)
@@ -209,10 +209,10 @@ fn stop_hurdle(timetbls: &[u64], a: SideRows, b: SideRows, from: Call, to: Call)
     if a.station != b.station {
         return FirstNo::Stops(Early::StationsDiffer);
     }
-    if !stop_times::may_alight(timetbls, a.part, from.stop, from.day) {
+    if !written_times::may_alight(timetbls, a.part, from.stop, from.day) {
         return FirstNo::Stops(Early::NobodyAlights);
     }
-    if !stop_times::may_board(timetbls, b.part, to.stop, to.day) {
+    if !written_times::may_board(timetbls, b.part, to.stop, to.day) {
         return FirstNo::Stops(Early::NobodyBoards);
     }
     FirstNo::Clear
@@ -357,11 +357,11 @@ fn judged(
         a.station,
         from.day,
     );
-    if !stop_times::is_there(zones, alight) {
+    if !zone_times::is_there(zones, alight) {
         return Change::ChangeRefused(Reason::NoPeriod);
     }
     let board = period_on(delivery, zones, stations, places, counts, b.station, to.day);
-    if !stop_times::is_there(zones, board) {
+    if !zone_times::is_there(zones, board) {
         return Change::ChangeRefused(Reason::NoPeriod);
     }
     weighed(
@@ -515,7 +515,7 @@ fn asked_from(
         service_places,
         v.service,
     );
-    let right = may_end(v.stop, store::count_stops(timetbls, part));
+    let right = may_end(v.stop, service_rows::count_stops(timetbls, part));
     running::asked(delivery, counts.delivery, part, right, v.date)
 }
 

@@ -114,7 +114,7 @@ fn is_marked_at(
         ⌝ }
 {
     let footnote = tables::word_at(t, EXCEPTION_WIDTH, i, words::EXCEPTION_FOOTNOTE);
-    store::is_marked(
+    vectors::is_marked(
         GroupFile::Xfootnote,
         xfootnotes,
         used,

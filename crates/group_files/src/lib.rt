@@ -21,7 +21,7 @@ ghost use Rattle.iff_rules.specs.Rows.{rowOf};
 ghost use Rattle.iff_rules.specs.Load.{groupsVerdict};
 ghost use Rattle.references.specs.Agree.{GroupKeys, GroupKeysAmong};
 ghost use Rattle.reading.specs.Reading.{Ready, RowsDone, FileRead};
-ghost use Rattle.group_files.specs.Begun.{firstIn, GroupsBegun};
+ghost use Rattle.group_files.specs.Begun.{firstIn, namesOthers, GroupsBegun};
 
 // The number of a line that so many lines come before.
 fn line_number(before: usize) -> u64
@@ -204,9 +204,22 @@ fn add_groups(
     )
 }
 
-// The same for CHANGES, which alone names services: their places are found before the first line. There are 90001 first slots for them, which is a
-// prime number, and as many more as are tried for a key: of 60,000 services next to every one has a place, and with the marks of the rows and what
-// TIMETBLS had the stack of a load stays under 1.5 MB.
+// A file whose rows name rows of other files.
+fn names_others(file: GroupFile) -> bool
+    ensures { λ r. ⌜ r ≡ namesOthers file ⌝ }
+{
+    match file {
+        GroupFile::Timezone => false,
+        GroupFile::Footnote => false,
+        GroupFile::Changes => true,
+        GroupFile::Xfootnote => false,
+        GroupFile::Xchanges => true,
+    }
+}
+
+// The same for a file whose rows name rows of other files: their places are found before the first line. There are 90001 first slots for
+// them, which is a prime number, and as many more as are tried for a key: of 60,000 services that are named next to every one has a place, and with
+// the marks of the rows and what TIMETBLS had the stack of a load stays under 1.5 MB.
 fn add_placed(
     file: GroupFile,
     form: Form,
@@ -228,7 +241,18 @@ fn add_placed(
         (map (rowOf form (Groups file)) (lines (drop from (now (text .entry))))) (now (t .entry)) (now (t .exit)) r ⌝ }
 {
     let mut places = [0u32; 90065];
-    keys::index_services(services, counts.services, &mut places);
+    named_places::index_named(
+        file,
+        text,
+        from,
+        counts,
+        companies,
+        modes,
+        stations,
+        services,
+        xfootnotes,
+        &mut places,
+    );
     add_groups(
         file,
         form,
@@ -267,7 +291,7 @@ fn read_groups(
         (map (rowOf form (Groups file)) (lines (drop from (now (text .entry))))) (now (t .entry)) (now (t .exit)) r ⌝ }
 {
     let counts = references::count_for_groups(companies, modes, stations, service_rows, xfootnotes);
-    if let GroupFile::Changes = file {
+    if names_others(file) {
         return add_placed(
             file,
             form,

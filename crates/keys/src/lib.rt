@@ -58,7 +58,7 @@ pub fn used_rows(file: iff::File, t: &[u64]) -> usize
 }
 
 // How many rows a lookup goes through: those in use, as far as there is room for them.
-fn rows_among(t: &[u64], w: usize, used: usize) -> usize
+pub fn rows_among(t: &[u64], w: usize, used: usize) -> usize
     requires { ⌜ 0 < w ⌝ }
     ensures { λ r. ⌜ r ≡ atMost used (length (now (t .entry)) / w) ⌝ }
 {
@@ -177,7 +177,7 @@ fn found_by_scan(file: iff::File, t: &[u64], used: usize, key: u64) -> iff::RowO
 }
 
 // Where the block after the one in row `i` begins, by the number of lines that its `#` tells; the end of the rows where a number leads nowhere.
-fn next_block(t: &[u64], rows: usize, i: usize) -> usize
+pub fn next_block(t: &[u64], rows: usize, i: usize) -> usize
     requires { ⌜ (i < rows) × (i * rowWidth Timetbls + rowWidth Timetbls ≤ length (now t)) ⌝ }
     ensures { λ r. ⌜ (i < r) × (r ≤ rows) ⌝ }
 {
@@ -244,61 +244,6 @@ fn place_row(place: u32) -> usize
     ensures { λ r. ⌜ r ≡ place ⌝ }
 {
     place as usize
-}
-
-// Puts a key's row into the first free slot of those for it. Row 0 is the first line's, so 0 is a free slot. Where none is free, or there are too
-// few slots, or the number is too wide for a slot, the key is left out, and is searched for.
-fn put_place(places: &mut [u32], key: u64, row: usize)
-    ensures { λ _. ⌜ length (now (places .exit)) ≡ length (now (places .entry)) ⌝ }
-{
-    if row > 4294967295 {
-        return;
-    }
-    let slots = places.len();
-    if slots <= PROBES {
-        return;
-    }
-    let place = row as u32;
-    let mut at = place_of(key, slots);
-    let end = at + PROBES;
-    while at < end {
-        if places[at] == 0 {
-            places[at] = place;
-            return;
-        }
-        at += 1;
-    }
-}
-
-// Puts the keys of a table into their slots. Two tables may share the slots, since a row is tested in the table that is asked.
-pub fn index_rows(file: iff::File, t: &[u64], used: usize, places: &mut [u32])
-    ensures { λ _. ⌜ length (now (places .exit)) ≡ length (now (places .entry)) ⌝ }
-{
-    let w = tables::row_width(file);
-    let tag = key_tag(file);
-    let col = key_word(file);
-    let rows = rows_among(t, w, used);
-    let mut i = 1;
-    while i < rows {
-        if tables::word_at(t, w, i, iff::words::TAG) == tag {
-            let key = tables::word_at(t, w, i, col);
-            put_place(places, key, i);
-        }
-        i += 1;
-    }
-}
-
-// Puts the services of TIMETBLS into their slots, from each `#` to the next.
-pub fn index_services(t: &[u64], used: usize, places: &mut [u32])
-    ensures { λ _. ⌜ length (now (places .exit)) ≡ length (now (places .entry)) ⌝ }
-{
-    let rows = rows_among(t, tables::BLOCK_WIDTH, used);
-    let mut i = 1;
-    while i < rows {
-        let key = tables::word_at(t, tables::BLOCK_WIDTH, i, iff::words::NAMED);
-        put_place(places, key, i);
-        i = next_block(t, rows, i);
-    }
 }
 
 // A look at the slots for a key. A free one ends it: the key is in none of those after it. A slot with a row of another table, which may be out of

@@ -34,7 +34,7 @@ use Rattle.keys.proofs.Among.{keys-counted}
 use Rattle.references.specs.Agree.{BlockKeys, StationKeys, GroupKeys}
 use Rattle.references.specs.Company.{companyNamed}
 use Rattle.reading.specs.Reading.{Ready, FileRead, DeliveryRead, headLine}
-use Rattle.timetbls.specs.Blocks.{Counted}
+use Rattle.block_walks.specs.Blocks.{Counted}
 use Rattle.iff_laws.specs.Outcomes.{Loaded}
 use Rattle.iff_laws.specs.ScanLaws.{or-fine, cons-fine, or-nothing}
 use Rattle.sizes.specs.Sizes.{sizesVerdict, lengthsWithin, absencesVerdict, lengthsOf}

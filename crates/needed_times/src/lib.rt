@@ -55,7 +55,7 @@ fn named_on(timetbls: &[u64], part: Part, kind: u64, leg: u64) -> u64
     requires { ⌜ Inside (rowWidth Timetbls) (now timetbls) part ⌝ }
     ensures { λ r. ⌜ r ≡ named (recordOn kind leg (rowsOf (rowWidth Timetbls) (now (timetbls .entry)) part)) ⌝ }
 {
-    let row = store::record_row(timetbls, part, kind, leg);
+    let row = service_rows::record_row(timetbls, part, kind, leg);
     store::word_of(timetbls, tables::BLOCK_WIDTH, row, words::NAMED)
 }
 

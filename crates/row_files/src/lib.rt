@@ -296,13 +296,13 @@ fn read_indexed(
         (now (text .entry)) from (now (t .entry)) (now (t .exit)) r ⌝ }
 {
     let mut places = [0u32; 65585];
-    keys::index_rows(
+    places::index_rows(
         File::Rows(RowFile::Country),
         countries,
         counts.countries,
         &mut places,
     );
-    keys::index_rows(
+    places::index_rows(
         File::Groups(GroupFile::Timezone),
         zones,
         counts.zones,

@@ -2,53 +2,22 @@
 use Prim.Native.Nat.{ℕ, zero, suc, _+_, _-_, _≤_, _<_}
 use mathlib.Core.Path.{_≡_, refl, sym, _∙_}
 use mathlib.Core.List.{List, [], _∷_}
-use mathlib.Core.Bool.{Bool, true, false, not, and-false, false≢true}
+use mathlib.Core.Bool.{Bool, true, false, not, false≢true}
 use native.Mathlib.Omega.{arith}
 use lib.Dec.{eqb, ltb}
-use borrow.Author.Tests.{eq-eqb, ne-eqb, eqb-true, eqb-false, lt-leb, ltb-true, ltb-false}
+use borrow.Author.Tests.{eqb-true, eqb-false, lt-leb, ltb-true, ltb-false}
 use Rattle.text.proofs.PictureLaws.{and-left, and-right}
 use Rattle.iff.specs.Bytes.{percent, dash, ampersand}
 use Rattle.iff.specs.Lists.{all, any, total}
-use Rattle.iff.specs.Tables.{Row, tag, rowAt, rowWidth}
-use Rattle.iff.specs.declared.File.the-variants.{Timetbls}
+use Rattle.iff.specs.Tables.{Row, tag}
 use Rattle.iff_rules.specs.Legs.{firstStop, lastStop, reachOf, inRange, covered, ofKind, stopsOf, legs}
 use Rattle.legs.specs.declared.Span.{Span}
 use Rattle.legs.specs.Rows.{covers, onceTo, SpanOf}
 use Rattle.legs.proofs.MarkLaws.{within, within-yes, within-not, once-covered}
 use Rattle.legs.proofs.RowLaws.{kind-times}
 use Rattle.legs.proofs.SpanLaws.{Ranged, range-of, times-same, times-other}
-use Rattle.row_legs.specs.Blocks.{blockBetween, rowsTimes, stopAfter, linked, allLinked}
-use Rattle.row_legs.proofs.WalkLaws.{between-next, between-none}
-
--- THE STOP AFTER A ROW, case by case
-module _ (x at : ℕ) (r : Row) where
-  pub after-other : (tag r ≡ x → ⊥) → at ≡ stopAfter x at r
-  unfolding stopAfter
-  after-other q = rw (ne-eqb (tag r) x q)
-
-  module _ (e : tag r ≡ x) (s : Span) (o : SpanOf r s) where
-    pub after-elsewhere : (s .first ≡ at → ⊥) → 0 ≡ stopAfter x at r
-    unfolding stopAfter
-    after-elsewhere q = rw (eq-eqb (tag r) x e, ← o .first, ne-eqb (s .first) at q)
-
-    pub after-linked : s .first ≡ at → s .last ≡ stopAfter x at r
-    unfolding stopAfter
-    after-linked q = rw (eq-eqb (tag r) x e, ← o .first, ← o .last, eq-eqb (s .first) at q)
-
--- A LOOP that has come to row i and stop `at`
-module _ (x n : ℕ) (t : List ℕ) (i to at : ℕ) where
-  pub linked-none : to ≤ i → linked x at n (blockBetween t i to) ≡ eqb at n
-  unfolding linked
-  linked-none h = rw (between-none (rowWidth Timetbls) t i to h)
-
-  module _ (h : i < to) (a : ℕ) (e : a ≡ stopAfter x at (rowAt (rowWidth Timetbls) t i)) where
-    pub linked-not : a ≡ 0 → linked x at n (blockBetween t i to) ≡ false
-    unfolding linked
-    linked-not z = rw (between-next (rowWidth Timetbls) t i to h, ← e, z)
-
-    pub linked-on : (a ≡ 0 → ⊥) → linked x at n (blockBetween t i to) ≡ linked x a n (blockBetween t (i + 1) to)
-    unfolding linked
-    linked-on q = rw (between-next (rowWidth Timetbls) t i to h, ← e, ne-eqb a 0 q)
+use Rattle.linked_legs.specs.Links.{stopAfter, linked, allLinked}
+use Rattle.row_legs.specs.Blocks.{rowsTimes}
 
 -- LEGS from stop to stop
 within-before : (first last k : ℕ) → k < first → within first last k ≡ 0
@@ -132,43 +101,6 @@ linked-covers x n c rs a l =
     let y = reaching x n c rs a 1 l in
     sym (once-covered (ofKind x rs) (within 1 n) (λ k. sym (kind-times x k rs ∙ y .once k)) (n - 1))
     ∙ once-each n (n - 1) (omega (arith, y .low))
-
--- ONE PASS over all kinds: what is left is the whole, of each test
-pub record Linking (t : List ℕ) (from to n i number validity mode : ℕ) : Type 0 where
-  pub ranged : all (inRange reachOf n) (blockBetween t from to) ≡ all (inRange reachOf n) (blockBetween t i to)
-  pub numbers : linked percent 1 n (blockBetween t from to) ≡ linked percent number n (blockBetween t i to)
-  pub validities : linked dash 1 n (blockBetween t from to) ≡ linked dash validity n (blockBetween t i to)
-  pub modes : linked ampersand 1 n (blockBetween t from to) ≡ linked ampersand mode n (blockBetween t i to)
-
-module _ (t : List ℕ) (from to n : ℕ) where
-  pub linking-first : Linking t from to n from 1 1 1
-  linking-first = record { ranged = refl; numbers = refl; validities = refl; modes = refl }
-
-  abbrev rows : List Row
-  rows = blockBetween t from to
-
-  -- a test that does not hold
-  pub range-fails : all (inRange reachOf n) rows ≡ false → false ≡ allLinked n rows
-  unfolding allLinked
-  range-fails e = sym (rw e)
-
-  pub numbers-fail : linked percent 1 n rows ≡ false → false ≡ allLinked n rows
-  unfolding allLinked
-  numbers-fail e = sym (rw (e, and-false))
-
-  pub validities-fail : linked dash 1 n rows ≡ false → false ≡ allLinked n rows
-  unfolding allLinked
-  validities-fail e = sym (rw (e, and-false, and-false))
-
-  pub modes-fail : linked ampersand 1 n rows ≡ false → false ≡ allLinked n rows
-  unfolding allLinked
-  modes-fail e = sym (rw (e, and-false, and-false, and-false))
-
-  -- where the others hold, the last decides
-  pub all-hold : all (inRange reachOf n) rows ≡ true → linked percent 1 n rows ≡ true → linked dash 1 n rows ≡ true
-      → linked ampersand 1 n rows ≡ allLinked n rows
-  unfolding allLinked
-  all-hold a b d = sym (rw (a, b, d))
 
 -- records that are all linked cover each leg once, of every kind
 pub linked-legs : (n : ℕ) (rs : List Row) → n ≡ stopsOf rs → allLinked n rs ≡ true → true ≡ legs reachOf rs

@@ -11,7 +11,8 @@ use Rattle.iff_rules.specs.Legs.{reachOf, inRange, covered, ofKind, legs}
 use Rattle.legs.specs.Rows.{covers, onceTo}
 use Rattle.legs.proofs.MarkLaws.{once-covered}
 use Rattle.legs.proofs.RowLaws.{kind-times}
-use Rattle.row_legs.specs.Blocks.{blockBetween, BlockOfStops, RangedBlock, rowsTimes}
+use Rattle.linked_legs.specs.Links.{blockBetween}
+use Rattle.row_legs.specs.Blocks.{BlockOfStops, RangedBlock, rowsTimes}
 
 -- a kind's records, counted among all
 pub kind-once : (x m : ℕ) (rs : List Row) → onceTo m (rowsTimes x rs) ≡ covered m (ofKind x rs)

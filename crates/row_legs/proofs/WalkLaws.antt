@@ -1,9 +1,8 @@
--- Laws of a loop over some rows of a table: what is left to ask is the whole. Assumes nothing.
-use Prim.Native.Nat.{ℕ, suc, _+_, _-_, _*_, _≤_, _<_}
+-- Laws of the loop that marks the legs of some rows of a table. Assumes nothing.
+use Prim.Native.Nat.{ℕ, _+_, _-_, _*_, _≤_, _<_}
 use mathlib.Core.Path.{_≡_, refl, _∙_}
-use mathlib.Core.List.{List, [], _∷_}
+use mathlib.Core.List.{List, _∷_}
 use mathlib.Core.Bool.{Bool, true, false}
-use native.Mathlib.Numerals.{add-one}
 use native.Mathlib.Omega.{arith}
 use lib.ListN.{length, getD, take, drop, length-drop}
 use lib.Seq.{length-take-le}
@@ -13,29 +12,11 @@ use Rattle.iff.specs.Tables.{Row, rowAt, rowWidth}
 use Rattle.iff.specs.declared.File.the-variants.{Timetbls}
 use Rattle.iff_rules.specs.Legs.{reachOf, inRange}
 use Rattle.tables.proofs.Rows.{row-inside}
-use Rattle.keys.specs.Blocks.{blockOfRows, rowsBetween}
 use Rattle.legs.specs.Rows.{times, Markable}
 use Rattle.legs.specs.Tally.{Tally}
-use Rattle.row_legs.specs.Blocks.{blockBetween, RowMarkable, RangedBlock, rowsTimes}
-
--- ONE ROW MORE, and none
-pub between-next : (w : ℕ) (t : List ℕ) (i to : ℕ) → i < to → rowsBetween w t i to ≡ (rowAt w t i ∷ rowsBetween w t (i + 1) to)
-unfolding blockOfRows
-between-next w t i to h =
-    let z : to - i ≡ suc (to - suc i) = omega arith in
-    rw (z, add-one)
-
-pub between-none : (w : ℕ) (t : List ℕ) (i to : ℕ) → to ≤ i → rowsBetween w t i to ≡ []
-unfolding blockOfRows
-between-none w t i to h =
-    let z : to - i ≡ 0 = omega arith in
-    rw z
-
--- a part of the table that is as long as a row
-pub part-row : (w i : ℕ) (t : List ℕ) → take (i * w + w - i * w) (drop (i * w) t) ≡ rowAt w t i
-part-row w i t =
-    let z : i * w + w - i * w ≡ w = omega arith in
-    rw z
+use Rattle.linked_legs.specs.Links.{blockBetween}
+use Rattle.linked_legs.proofs.RowLaws.{between-next, between-none, part-row}
+use Rattle.row_legs.specs.Blocks.{RowMarkable, RangedBlock, rowsTimes}
 
 -- that part marks as the row does
 module _ (t : List ℕ) (i n x : ℕ) where
@@ -56,21 +37,6 @@ module _ (t : List ℕ) (i n x : ℕ) where
   pub part-marked : (was is : List ℕ) (r : Bool) → Tally 1 n (λ k. times x k part) was is r
       → Tally 1 n (λ k. times x k (rowAt (rowWidth Timetbls) t i)) was is r
   part-marked was is r y = rw (← part-row (rowWidth Timetbls) i t) y
-
--- WHETHER ALL ROWS PASS A TEST
-module _ (p : Row → Bool) (t : List ℕ) (i to : ℕ) where
-  pub all-none : to ≤ i → all p (blockBetween t i to) ≡ true
-  unfolding all
-  all-none h = rw (between-none (rowWidth Timetbls) t i to h)
-
-  module _ (h : i < to) (b : Bool) (e : b ≡ p (rowAt (rowWidth Timetbls) t i)) where
-    pub all-not : b ≡ false → all p (blockBetween t i to) ≡ false
-    unfolding all
-    all-not g = rw (between-next (rowWidth Timetbls) t i to h, ← e, g)
-
-    pub all-on : b ≡ true → all p (blockBetween t i to) ≡ all p (blockBetween t (i + 1) to)
-    unfolding all
-    all-on g = rw (between-next (rowWidth Timetbls) t i to h, ← e, g)
 
 -- MARKS, at row i
 pub record MarkingRows (t was is : List ℕ) (from to n x i : ℕ) : Type 0 where

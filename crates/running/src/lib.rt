@@ -64,9 +64,9 @@ pub fn runs_on(
         → r ≡ runsOn R (rowsOf (rowWidth Timetbls) (now (timetbls .entry)) part) leg day)
         ⌝ }
 {
-    let row = store::record_row(timetbls, part, iff::tags::DASH, leg);
+    let row = service_rows::record_row(timetbls, part, iff::tags::DASH, leg);
     let footnote = store::word_of(timetbls, tables::BLOCK_WIDTH, row, iff::words::NAMED);
-    store::is_marked(
+    vectors::is_marked(
         iff::GroupFile::Footnote,
         footnotes,
         used,
@@ -84,7 +84,7 @@ pub fn is_leg(timetbls: &[u64], part: Part, leg: u64) -> bool
     if leg < 1 {
         return false;
     }
-    leg < store::count_stops(timetbls, part)
+    leg < service_rows::count_stops(timetbls, part)
 }
 
 fn runs(b: bool) -> Running

@@ -12,7 +12,7 @@ use Rattle.iff.specs.declared.GroupFile.the-variants.{Timezone, Footnote, Chang
 use Rattle.iff.specs.declared.File.{File}
 use Rattle.iff.specs.declared.File.the-variants.{Groups, Timetbls}
 use Rattle.iff.specs.declared.Record.{Record}
-use Rattle.shapes.specs.Entries.{SameLetter}
+use Rattle.shapes.specs.Letters.{SameLetter}
 
 pub no-byte : (tag : ℕ) → 256 ≤ tag → SameLetter tag 0
 no-byte tag h = record { same = λ k some few. ne-eqb tag k (λ e. omega arith) ∙ sym (ne-eqb 0 k (λ e. omega arith)) }

@@ -23,7 +23,7 @@ use Rattle.records.specs.declared.Entry.{Entry}
 use Rattle.records.specs.Facts.{EntryOf}
 use Rattle.records.specs.Layouts.{each, fields, noField, fieldAt, leaves, leaving, spansOf, byteOf}
 use Rattle.records.proofs.FieldLaws.{Placed, fixed-place, is-vector, table-length, slice-step}
-use Rattle.shapes.specs.Entries.{Digits, wordFits, marksFit}
+use Rattle.field_words.specs.Fits.{Digits, wordFits}
 
 -- WHAT LEAVES NO WORD asks nothing of a row
 silent : (k : Class) (width : ℕ) (r : List ℕ) → leaves k ≡ false → wordRight k width r ≡ true
@@ -146,41 +146,6 @@ module _ (row : List ℕ) (first end k j : ℕ) (b : end ≤ 51) (l : Walking ro
   walk-end h =
       let q : j ≡ end = omega arith in
       sym (l .whole ∙ rw (q, slice-empty))
-
--- THE LOOP OVER A VECTOR'S WORDS: i of them read, and what is left is the whole
-pub record Reading (row : List ℕ) (days left i : ℕ) : Type 0 where
-  pub few : i ≤ vectorWidth
-  pub whole : vectorRight vectorWidth days (drop 1 row) ≡ vectorRight (vectorWidth - i) left (drop (i + 1) row)
-
-pub read-begin : (row : List ℕ) (days : ℕ) → Reading row days days 0
-read-begin row days = record { few = omega arith; whole = refl }
-
-vector-step : (n days : ℕ) (r : List ℕ) → vectorRight (suc n) days r ≡ (marksFit (wordAt r 0) days && vectorRight n (days - 64) (drop 1 r))
-unfolding vectorRight marksFit
-vector-step n days r = refl
-
-vector-done : (days : ℕ) (r : List ℕ) → vectorRight 0 days r ≡ true
-unfolding vectorRight
-vector-done days r = refl
-
-module _ (row : List ℕ) (days left i : ℕ) (l : Reading row days left i) where
-  module _ (h : i < vectorWidth) where
-    marks-step : vectorRight (vectorWidth - i) left (drop (i + 1) row)
-        ≡ (marksFit (getD row (i + 1) 0) left && vectorRight (vectorWidth - (i + 1)) (left - 64) (drop (i + 1 + 1) row))
-    marks-step =
-        let n : vectorWidth - i ≡ suc (vectorWidth - (i + 1)) = omega arith in
-        rw (n, vector-step, getD-drop, add-zero, drop-drop)
-
-    pub read-fails : marksFit (getD row (i + 1) 0) left ≡ false → false ≡ vectorRight vectorWidth days (drop 1 row)
-    read-fails e = sym (l .whole ∙ marks-step ∙ rw e)
-
-    pub read-on : marksFit (getD row (i + 1) 0) left ≡ true → (next : ℕ) → next ≡ left - 64 → Reading row days next (i + 1)
-    read-on e next q = record { few = omega arith; whole = l .whole ∙ marks-step ∙ rw (e, q) }
-
-  pub read-end : vectorWidth ≤ i → true ≡ vectorRight vectorWidth days (drop 1 row)
-  read-end h =
-      let n : vectorWidth - i ≡ 0 = omega arith in
-      sym (l .whole ∙ rw (n, vector-done))
 
 -- A ROW OF A RECORD, whose part of the tables is s
 module _ (form : Form) (r : Record) (s : Spans) (e : s ≡ spansOf r) (row : List ℕ) where

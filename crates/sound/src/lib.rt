@@ -275,6 +275,7 @@ fn are_right_behind(
         form,
         country,
         timezone,
+        places,
     );
     let with_country = sound_behind::are_rows_right(
         with_company,
@@ -284,6 +285,7 @@ fn are_right_behind(
         form,
         country,
         timezone,
+        places,
     );
     let with_trnsmode = sound_behind::are_rows_right(
         with_country,
@@ -293,6 +295,7 @@ fn are_right_behind(
         form,
         country,
         timezone,
+        places,
     );
     let with_timezone = sound_behind::are_groups_right(
         with_trnsmode,
@@ -316,6 +319,7 @@ fn are_right_behind(
         form,
         country,
         timezone,
+        places,
     );
     let with_footnote = sound_behind::are_groups_right(
         with_stations,
@@ -389,7 +393,7 @@ pub fn form_of(first: &[u64]) -> Form
 }
 
 // The tables that are needed are there: the frames, TIMETBLS as a whole, the rows of the others, and DELIVERY's own company. CHANGES, whose rows name
-// services, comes after TIMETBLS, whose services are in the index then.
+// services, comes after TIMETBLS, whose services are in the index then, as far as they are not too many; those that CHANGES names are in any case.
 fn are_all_sound(
     delivery: &[u64],
     company: &[u64],
@@ -452,6 +456,7 @@ fn are_all_sound(
     ) else {
         return false;
     };
+    named_places::index_in_rows(changes, used.changes, timetbls, services, places);
     if !are_right_behind(
         delivery,
         company,

@@ -15,8 +15,8 @@ use Rattle.keys.specs.Blocks.{rowsBetween}
 use Rattle.keys.specs.Lookup.{keysAmong}
 use Rattle.fresh_keys.proofs.Runs.{and-left, and-right}
 use Rattle.walks.proofs.TableLaws.{parted}
-use Rattle.sound_blocks.specs.Walk.{BlocksTold}
-use Rattle.sound_blocks.specs.declared.BlocksAre.{BlocksAre}
+use Rattle.sound_timetbls.specs.Told.{BlocksTold}
+use Rattle.sound_timetbls.specs.declared.BlocksAre.{BlocksAre}
 use Rattle.sound_frames.specs.Frames.{framedRows, framed}
 use Rattle.sound_frames.proofs.FrameLaws.{later-keys, not-distinct, some-rows}
 use Rattle.references.specs.declared.BlockCounts.{BlockCounts}

@@ -31,6 +31,7 @@ pub fn are_rows_right(
     form: Form,
     countries: &[u64],
     zones: &[u64],
+    places: &[u32],
 ) -> bool
     requires { ⌜ used ≡ length (rowsIn (Rows file) (now t)) ⌝ }
     ensures { λ r. ⌜ ((c : Context) → c .form ≡ form → StationKeys c (now (countries .entry)) (now (zones .entry))
@@ -42,7 +43,7 @@ pub fn are_rows_right(
     if used == 0 {
         return true;
     }
-    sound_rows::are_rows_sound(file, t, used, form, countries, zones)
+    sound_rows::are_rows_sound(file, t, used, form, countries, zones, places)
 }
 
 // A file of groups.
@@ -106,7 +107,7 @@ pub fn judge_blocks(
     if tables::word_or_zero(t, words::TAG) != tags::AT {
         return Judged::Wrong;
     }
-    let sound_blocks::BlocksAre::Sound(used, rise) = sound_blocks::are_blocks_sound(
+    let sound_timetbls::BlocksAre::Sound(used, rise) = sound_timetbls::are_blocks_sound(
         t,
         counts,
         companies,

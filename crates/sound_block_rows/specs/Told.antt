@@ -2,25 +2,17 @@
 use Prim.Native.Nat.{ℕ, _≤_}
 use mathlib.Core.Path.{_≡_}
 use mathlib.Core.List.{List}
-use mathlib.Core.Bool.{Bool, true, false, _&&_}
-use Rattle.iff.specs.Columns.{fieldsOf}
+use mathlib.Core.Bool.{Bool, true, false}
 use Rattle.iff.specs.Tables.{Row, tag}
-use Rattle.iff.specs.declared.File.the-variants.{Timetbls}
-use Rattle.iff.specs.declared.Form.{Form}
 use Rattle.iff.specs.declared.InBlock.{InBlock}
-use Rattle.iff_rules.specs.Meaning.{mostStops, blockMeaning}
-use Rattle.iff_rules.specs.References.{metInBlock}
+use Rattle.iff_rules.specs.Meaning.{mostStops}
 use Rattle.iff_rules.specs.Rows.{Context}
 use Rattle.iff_rules.specs.Load.{blockMoves}
-use Rattle.iff_desk.specs.Sound.{shaped, ownWords, soundBlockRow}
+use Rattle.iff_desk.specs.Sound.{soundBlockRow}
 use Rattle.references.specs.declared.BlockCounts.{BlockCounts}
 use Rattle.references.specs.Agree.{BlockKeysAmong}
 use Rattle.sound_block_rows.specs.declared.After.{After}
 use Rattle.sound_block_rows.specs.declared.After.the-variants.{Stands, Unsound}
-
--- a row's words and what they name, after some stops
-unfoldable pub rowTests : Context → ℕ → Row → Bool
-rowTests c stops r = shaped (fieldsOf (c .form) Timetbls (tag r)) (ownWords r) && (blockMeaning stops r && metInBlock c r)
 
 abbrev pub isSound : After → Bool
 isSound (Stands next) = true

@@ -1,4 +1,3 @@
 pub mod UsedLaws
 pub mod WalkLaws
 pub mod BlockLaws
-pub mod ServiceLaws

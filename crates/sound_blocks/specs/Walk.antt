@@ -2,19 +2,18 @@
 use Prim.Native.Nat.{ℕ, suc, _*_, _≤_, _<_}
 use mathlib.Core.Path.{_≡_}
 use mathlib.Core.List.{List}
-use mathlib.Core.Bool.{Bool, true, false, _&&_}
+use mathlib.Core.Bool.{Bool, true, false}
 use lib.ListN.{length}
 use Rattle.iff.specs.Lists.{Group}
-use Rattle.iff.specs.Tables.{Row, rowAt, rowWidth, rowsIn, rising}
+use Rattle.iff.specs.Tables.{Row, rowAt, rowWidth, rowsIn}
 use Rattle.iff.specs.declared.File.the-variants.{Timetbls}
 use Rattle.iff.specs.declared.InBlock.{InBlock}
 use Rattle.iff_rules.specs.Meaning.{mostStops}
 use Rattle.iff_rules.specs.Legs.{stopsOf}
 use Rattle.iff_rules.specs.Rows.{Context}
 use Rattle.iff_rules.specs.Load.{blockStart}
-use Rattle.iff_desk.specs.Sound.{passes, soundBlockRow, nextRow, rowsStart, standAfterRows, soundBlock, soundTimetbls, distinct}
+use Rattle.iff_desk.specs.Sound.{passes, soundBlockRow, nextRow, rowsStart, standAfterRows, soundBlock}
 use Rattle.keys.specs.Blocks.{rowsBetween}
-use Rattle.keys.specs.Lookup.{keysAmong}
 use Rattle.references.specs.declared.BlockCounts.{BlockCounts}
 use Rattle.references.specs.Agree.{BlockKeysAmong}
 use Rattle.walks.specs.Heads.{NextHead}
@@ -22,8 +21,6 @@ use Rattle.sound_blocks.specs.declared.Walked.{Walked}
 use Rattle.sound_blocks.specs.declared.Walked.the-variants.{Through, Unsound}
 use Rattle.sound_blocks.specs.declared.Tested.{Tested}
 use Rattle.sound_blocks.specs.declared.Tested.the-variants as tested
-use Rattle.sound_blocks.specs.declared.BlocksAre.{BlocksAre}
-use Rattle.sound_blocks.specs.declared.BlocksAre.the-variants as blocks
 
 -- how many rows of a table of TIMETBLS are in use
 abbrev pub usedIn : List ℕ → ℕ
@@ -70,15 +67,3 @@ pub record BlockTold (counts : BlockCounts) (co mo st fo t : List ℕ) (from use
   pub next : NextHead (rowWidth Timetbls) t (suc from) used end
   pub says : (c : Context) → BlockKeysAmong c counts co mo st fo → isSound r ≡ soundBlock c (groupOf t from end)
   pub ended : (to : ℕ) → r ≡ tested.Sound to → to ≡ end
-
-abbrev pub areSound : BlocksAre → Bool
-areSound (blocks.Sound rows rise) = true
-areSound blocks.Unsound = false
-
--- whether all blocks are sound and no service comes twice, and where both are so, how many rows are in use and whether services rise
-pub record BlocksTold (counts : BlockCounts) (co mo st fo t : List ℕ) (used : ℕ) (r : BlocksAre) : Type 0 where
-  pub says :
-      (c : Context) → BlockKeysAmong c counts co mo st fo
-      → areSound r ≡ (soundTimetbls c (rowsOf t 1 used) && distinct (keysAmong Timetbls used t))
-  pub rows : (n : ℕ) (b : Bool) → r ≡ blocks.Sound n b → n ≡ used
-  pub rise : (n : ℕ) (b : Bool) → r ≡ blocks.Sound n b → b ≡ rising (keysAmong Timetbls used t)

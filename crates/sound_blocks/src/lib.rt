@@ -1,4 +1,4 @@
-// The rows of TIMETBLS after its first line, as "Soundness" of document 01 asks for them: block by block, each from its `#` to the next.
+// One block of TIMETBLS, as "Soundness" of document 01 asks for it: its rows from its `#` to the next, and the block as a whole.
 ghost use mathlib.Core.Path.{_≡_};
 ghost use mathlib.Core.Bool.{false, _&&_};
 ghost use Prim.Native.Nat.{_+_, _*_, _≤_, _<_};
@@ -8,7 +8,7 @@ ghost use Rattle.iff.specs.Tables.{rowAt, rowWidth, isHashRow};
 ghost use Rattle.iff.specs.declared.File.the-variants.{Timetbls};
 ghost use Rattle.iff_rules.specs.Meaning.{mostStops};
 ghost use Rattle.sound_block_rows.specs.Told.{RowTold};
-ghost use Rattle.sound_blocks.specs.Walk.{usedIn, BlockAt, BlockWalked, BlockTold, BlocksTold};
+ghost use Rattle.sound_blocks.specs.Walk.{usedIn, BlockAt, BlockWalked, BlockTold};
 
 // Where the rows of a block lead, each of them sound, and the row behind them; or that one is not.
 pub enum Walked {
@@ -19,12 +19,6 @@ pub enum Walked {
 // The row behind a sound block.
 pub enum Tested {
     Sound(usize),
-    Unsound,
-}
-
-// All blocks are sound and no service comes twice: the number of rows in use, the first line's among them, and whether the services rise.
-pub enum BlocksAre {
-    Sound(usize, bool),
     Unsound,
 }
 
@@ -121,7 +115,7 @@ fn walk_rows(
 }
 
 // One block: its rows, that it may end with them, the counts of its `#` row, and the legs.
-fn test_block(
+pub fn test_block(
     t: &[u64],
     from: usize,
     counts: references::BlockCounts,
@@ -164,52 +158,4 @@ fn test_block(
         return Tested::Unsound;
     }
     Tested::Sound(to)
-}
-
-// All blocks, each of which begins with a `#`, up to the end of the rows in use, which is found on the way. So is each block's service tested and put
-// into the index, while its row is at hand; the rows behind it up to the next `#` name nothing.
-pub fn are_blocks_sound(
-    t: &[u64],
-    counts: references::BlockCounts,
-    companies: &[u64],
-    modes: &[u64],
-    stations: &[u64],
-    footnotes: &[u64],
-    places: &mut [u32],
-) -> BlocksAre
-    requires { ⌜ (1 ≤ usedIn (now t)) × (isHashRow (rowAt (rowWidth Timetbls) (now t) 0) ≡ false) ⌝ }
-    ensures { λ r. ⌜ BlocksTold counts (now (companies .entry)) (now (modes .entry)) (now (stations .entry)) (now (footnotes .entry))
-        (now (t .entry)) (usedIn (now (t .entry))) r × (length (now (places .exit)) ≡ length (now (places .entry))) ⌝ }
-{
-    let room = t.len() / tables::BLOCK_WIDTH;
-    let mut run = fresh_keys::no_keys();
-    let mut i: usize = 1;
-    while i < room {
-        let tag = tables::word_at(t, tables::BLOCK_WIDTH, i, iff::words::TAG);
-        if tag == 0 {
-            return BlocksAre::Sound(i, run.rises);
-        }
-        if tag != iff::tags::HASH {
-            return BlocksAre::Unsound;
-        }
-        let Tested::Sound(end) = test_block(
-            t,
-            i,
-            counts,
-            companies,
-            modes,
-            stations,
-            footnotes,
-            places,
-        ) else {
-            return BlocksAre::Unsound;
-        };
-        let index::Next::Goes(next) = index::index_row(iff::File::Timetbls, t, i, run, places)
-        else {
-            return BlocksAre::Unsound;
-        };
-        run = next;
-        i = end;
-    }
-    BlocksAre::Sound(i, run.rises)
 }

@@ -17,7 +17,7 @@ use Rattle.references.specs.Agree.{GroupKeysAmong}
 use Rattle.references.specs.declared.GroupCounts.{GroupCounts}
 use Rattle.walks.specs.Heads.{NextHead}
 use Rattle.walks.proofs.GroupLaws.{between-none, between-first, group-at}
-use Rattle.sound_groups.specs.Told.{Told, groupAt}
+use Rattle.sound_group_rows.specs.Told.{Told, groupAt}
 
 -- rows of that many words, by whatever name the number goes
 pub as-wide : (w v n m : ℕ) → w ≡ v → n * v ≤ m → n * w ≤ m

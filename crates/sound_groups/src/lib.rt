@@ -3,137 +3,19 @@ use iff::File;
 use iff::Form;
 use iff::GroupFile;
 use iff::GroupStand;
-use iff::tags;
-use iff::words;
 use references::GroupCounts;
 ghost use mathlib.Core.Path.{_≡_};
-ghost use Prim.Native.Nat.{_+_, _*_, _<_, _≤_};
-ghost use lib.ListN.{length, drop};
-ghost use Rattle.iff.specs.Tables.{rowAt, rowWidth};
+ghost use Prim.Native.Nat.{_*_, _<_, _≤_};
+ghost use lib.ListN.{length};
+ghost use Rattle.iff.specs.Tables.{rowWidth};
 ghost use Rattle.iff.specs.declared.File.the-variants.{Groups};
-ghost use Rattle.iff_rules.specs.Order.{groupStand};
 ghost use Rattle.iff_rules.specs.Rows.{Context};
-ghost use Rattle.iff_rules.specs.Unique.{freshInGroup};
-ghost use Rattle.iff_desk.specs.Sound.{soundGroupRow, soundGroup, soundGroups};
+ghost use Rattle.iff_desk.specs.Sound.{soundGroup, soundGroups};
 ghost use Rattle.keys.specs.Blocks.{rowsBetween};
 ghost use Rattle.references.specs.Agree.{GroupKeysAmong};
-ghost use Rattle.sound_groups.specs.Told.{Told, rightAlone, groupAt};
+ghost use Rattle.sound_group_rows.specs.Told.{Told, groupAt};
 
-// ONE ROW
-
-// What needs no other row: where the group stands the row may come, its words are those of its record, and its numbers are right.
-fn is_right_alone(file: GroupFile, stand: GroupStand, row: &[u64], form: Form) -> bool
-    requires { ⌜ length (now row) ≡ rowWidth (Groups file) ⌝ }
-    ensures { λ r. ⌜ r ≡ rightAlone form file stand (now (row .entry)) ⌝ }
-{
-    let tag = row[words::TAG];
-    if !order::may_follow(file, stand, tag) {
-        return false;
-    }
-    let record = shapes::record_of(File::Groups(file), tag);
-    if !shapes::is_shaped(record, form, row) {
-        return false;
-    }
-    meanings::group_means(file, row)
-}
-
-// The row clashes with none of its group before it, whose `#` is row `from`.
-fn is_fresh(file: GroupFile, t: &[u64], from: usize, to: usize, row: &[u64]) -> bool
-    requires { ⌜ (from ≤ to) × (to * rowWidth (Groups file) ≤ length (now t)) × (length (now row) ≡ rowWidth (Groups file)) ⌝ }
-    ensures { λ r. ⌜ r ≡ freshInGroup file (drop 1 (rowsBetween (rowWidth (Groups file)) (now (t .entry)) from to)) (now (row .entry)) ⌝ }
-{
-    if row[words::TAG] == tags::HASH {
-        return true;
-    }
-    clashes::fresh_in_group(file, t, from + 1, to, row)
-}
-
-// A row of a group after those from row `from` on and before row `i`.
-fn is_row_sound(
-    file: GroupFile,
-    stand: GroupStand,
-    t: &[u64],
-    from: usize,
-    i: usize,
-    row: &[u64],
-    form: Form,
-    counts: GroupCounts,
-    companies: &[u64],
-    modes: &[u64],
-    stations: &[u64],
-    services: &[u64],
-    places: &[u32],
-    xfootnotes: &[u64],
-) -> bool
-    requires { ⌜ (from ≤ i) × (i * rowWidth (Groups file) ≤ length (now t)) × (length (now row) ≡ rowWidth (Groups file))
-        × (stand ≡ groupStand (rowsBetween (rowWidth (Groups file)) (now t) from i)) ⌝ }
-    ensures { λ r. ⌜ Told form counts (now (companies .entry)) (now (modes .entry)) (now (stations .entry)) (now (services .entry))
-        (now (xfootnotes .entry))
-        (λ c. soundGroupRow c file (rowsBetween (rowWidth (Groups file)) (now (t .entry)) from i) (now (row .entry))) r ⌝ }
-{
-    if !is_right_alone(file, stand, row, form) {
-        return false;
-    }
-    if !is_fresh(file, t, from, i, row) {
-        return false;
-    }
-    references::met_in_group(
-        file,
-        row,
-        counts,
-        companies,
-        modes,
-        stations,
-        services,
-        places,
-        xfootnotes,
-    )
-}
-
-// Row `i` of a table, likewise.
-fn is_sound_at(
-    file: GroupFile,
-    stand: GroupStand,
-    t: &[u64],
-    w: usize,
-    from: usize,
-    i: usize,
-    form: Form,
-    counts: GroupCounts,
-    companies: &[u64],
-    modes: &[u64],
-    stations: &[u64],
-    services: &[u64],
-    places: &[u32],
-    xfootnotes: &[u64],
-) -> bool
-    requires { ⌜ (w ≡ rowWidth (Groups file)) × (from ≤ i) × (i * w + w ≤ length (now t)) × (stand ≡ groupStand (rowsBetween w (now t) from i)) ⌝ }
-    ensures { λ r. ⌜ Told form counts (now (companies .entry)) (now (modes .entry)) (now (stations .entry)) (now (services .entry))
-        (now (xfootnotes .entry)) (λ c. soundGroupRow c file (rowsBetween w (now (t .entry)) from i) (rowAt w (now (t .entry)) i)) r ⌝ }
-{
-    let start = i * w;
-    let end = start + w;
-    is_row_sound(
-        file,
-        stand,
-        t,
-        from,
-        i,
-        &t[start..end],
-        form,
-        counts,
-        companies,
-        modes,
-        stations,
-        services,
-        places,
-        xfootnotes,
-    )
-}
-
-// GROUPS
-
-// The group from row `from` on and before row `to`.
+// The group from row `from` on and before row `to`. The marks may be anything: none of its rows was remembered before its first.
 fn is_group_sound(
     file: GroupFile,
     t: &[u64],
@@ -148,6 +30,7 @@ fn is_group_sound(
     services: &[u64],
     places: &[u32],
     xfootnotes: &[u64],
+    marks: &mut [u8],
 ) -> bool
     requires { ⌜ (w ≡ rowWidth (Groups file)) × (from < to) × (to * w ≤ length (now t)) ⌝ }
     ensures { λ r. ⌜ Told form counts (now (companies .entry)) (now (modes .entry)) (now (stations .entry)) (now (services .entry))
@@ -156,7 +39,7 @@ fn is_group_sound(
     let mut stand = GroupStand::Opening;
     let mut i = from;
     while i < to {
-        if !is_sound_at(
+        if !sound_group_rows::is_sound_at(
             file,
             stand,
             t,
@@ -171,6 +54,7 @@ fn is_group_sound(
             services,
             places,
             xfootnotes,
+            marks,
         ) {
             return false;
         }
@@ -181,7 +65,7 @@ fn is_group_sound(
 }
 
 // The groups behind the row of the first line, up to row `used`. No row stands before the first of them.
-pub fn are_groups_sound(
+fn walk_groups(
     file: GroupFile,
     t: &[u64],
     used: usize,
@@ -193,6 +77,7 @@ pub fn are_groups_sound(
     services: &[u64],
     places: &[u32],
     xfootnotes: &[u64],
+    marks: &mut [u8],
 ) -> bool
     requires { ⌜ (1 ≤ used) × (used * rowWidth (Groups file) ≤ length (now t)) ⌝ }
     ensures { λ r. ⌜ ((c : Context) → c .form ≡ form
@@ -222,10 +107,112 @@ pub fn are_groups_sound(
             services,
             places,
             xfootnotes,
+            marks,
         ) {
             return false;
         }
         i = next;
     }
     true
+}
+
+// The same with marks, of which there are none before the first group.
+fn walk_marked(
+    file: GroupFile,
+    t: &[u64],
+    used: usize,
+    form: Form,
+    counts: GroupCounts,
+    companies: &[u64],
+    modes: &[u64],
+    stations: &[u64],
+    services: &[u64],
+    places: &[u32],
+    xfootnotes: &[u64],
+) -> bool
+    requires { ⌜ (1 ≤ used) × (used * rowWidth (Groups file) ≤ length (now t)) ⌝ }
+    ensures { λ r. ⌜ ((c : Context) → c .form ≡ form
+        → GroupKeysAmong c counts (now (companies .entry)) (now (modes .entry)) (now (stations .entry)) (now (services .entry))
+        (now (xfootnotes .entry))
+        → r ≡ soundGroups c file (rowsBetween (rowWidth (Groups file)) (now (t .entry)) 1 used)) ⌝ }
+{
+    let mut marks = [0u8; 524288];
+    walk_groups(
+        file,
+        t,
+        used,
+        form,
+        counts,
+        companies,
+        modes,
+        stations,
+        services,
+        places,
+        xfootnotes,
+        &mut marks,
+    )
+}
+
+// Whether marks tell the rows of a file's groups apart: those of one station, and not the periods of a zone.
+fn is_told_by_marks(file: GroupFile) -> bool {
+    match file {
+        GroupFile::Timezone => false,
+        GroupFile::Footnote => false,
+        GroupFile::Changes => true,
+        GroupFile::Xfootnote => false,
+        GroupFile::Xchanges => true,
+    }
+}
+
+// The groups behind the row of the first line, with marks where many rows may stand in one group: few are sooner compared with each other than the marks
+// are cleared.
+pub fn are_groups_sound(
+    file: GroupFile,
+    t: &[u64],
+    used: usize,
+    form: Form,
+    counts: GroupCounts,
+    companies: &[u64],
+    modes: &[u64],
+    stations: &[u64],
+    services: &[u64],
+    places: &[u32],
+    xfootnotes: &[u64],
+) -> bool
+    requires { ⌜ (1 ≤ used) × (used * rowWidth (Groups file) ≤ length (now t)) ⌝ }
+    ensures { λ r. ⌜ ((c : Context) → c .form ≡ form
+        → GroupKeysAmong c counts (now (companies .entry)) (now (modes .entry)) (now (stations .entry)) (now (services .entry))
+        (now (xfootnotes .entry))
+        → r ≡ soundGroups c file (rowsBetween (rowWidth (Groups file)) (now (t .entry)) 1 used)) ⌝ }
+{
+    if 200 < used && is_told_by_marks(file) {
+        return walk_marked(
+            file,
+            t,
+            used,
+            form,
+            counts,
+            companies,
+            modes,
+            stations,
+            services,
+            places,
+            xfootnotes,
+        );
+    }
+    let mut no_marks = [0u8; 1];
+    walk_groups(
+        file,
+        t,
+        used,
+        form,
+        counts,
+        companies,
+        modes,
+        stations,
+        services,
+        places,
+        xfootnotes,
+        &mut no_marks,
+    )
 }

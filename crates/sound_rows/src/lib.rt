@@ -74,7 +74,7 @@ fn is_sound_at(
     )
 }
 
-// The rows behind that of the first line, up to row `used`.
+// The rows behind that of the first line, up to row `used`. `places` are a hint where rows of keys are, and may hold anything.
 pub fn are_rows_sound(
     file: RowFile,
     t: &[u64],
@@ -82,6 +82,7 @@ pub fn are_rows_sound(
     form: Form,
     countries: &[u64],
     zones: &[u64],
+    places: &[u32],
 ) -> bool
     requires { ⌜ used * rowWidth (Rows file) ≤ length (now t) ⌝ }
     ensures { λ r. ⌜ ((c : Context) → c .form ≡ form → StationKeys c (now (countries .entry)) (now (zones .entry))
@@ -89,10 +90,9 @@ pub fn are_rows_sound(
 {
     let w = tables::row_width(File::Rows(file));
     let counts = references::count_for_stations(countries, zones);
-    let no_places = [0u32; 1];
     let mut i = 1;
     while i < used {
-        if !is_sound_at(file, t, w, i, form, countries, zones, counts, &no_places) {
+        if !is_sound_at(file, t, w, i, form, countries, zones, counts, places) {
             return false;
         }
         i += 1;

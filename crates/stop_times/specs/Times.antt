@@ -1,50 +1,20 @@
--- A stop's times by a period, with the range that the gap between two of them asks for.
+-- A stop's times on a day, and the hours of periods that the zone rule asks for.
 use Prim.Native.Nat.{ℕ, _<_}
-use mathlib.Core.Path.{_≡_}
-use mathlib.Core.Bool.{Bool}
 use mathlib.Core.List.{List}
-use lib.IntN.{pos}
-use lib.Signed.{mag}
 use Rattle.iff.specs.Files.{PerFile}
 use Rattle.iff.specs.Refusals.{unless}
 use Rattle.iff.specs.Tables.{Row, rowsIn}
-use Rattle.iff.specs.Times.{minutesOf, referenceOf}
 use Rattle.iff.specs.Words.{named, hours, stationZone}
 use Rattle.iff.specs.declared.GroupFile.the-variants.{Timezone}
 use Rattle.iff.specs.declared.File.the-variants.{Groups}
 use Rattle.iff.specs.declared.Reason.the-variants.{NoPeriod}
-use Rattle.iff.specs.declared.MinutesOf.{MinutesOf}
-use Rattle.iff.specs.declared.MinutesOf.the-variants.{Minutes, NoMinutes}
-use Rattle.iff.specs.declared.LocalMinutes.{LocalMinutes}
-use Rattle.iff.specs.declared.ReferenceMinutes.{ReferenceMinutes}
 use Rattle.iff_desk.specs.Store.{stationRow, periodOf, isThere}
 use Rattle.iff_desk.specs.Stops.{timesBy, stopTimeAfter}
-use Rattle.iff_desk.specs.declared.TimeOf.{TimeOf}
-use Rattle.iff_desk.specs.declared.TimeOf.the-variants.{At, NoTime}
-use Rattle.iff_desk.specs.declared.StopTimes.{StopTimes}
 use Rattle.iff_desk.specs.declared.StopTime.{StopTime}
 
 -- the hours of every period that is found have two digits
 abbrev pub FewHours : List ℕ → Type 0
 FewHours t = (zone day : ℕ) → hours (periodOf (rowsIn (Groups Timezone) t) zone day) < 100
-
--- reference minutes are few
-pub record FewMinutes (t : TimeOf) : Type 0 where
-  pub few : (l : LocalMinutes) (m : ReferenceMinutes) → t ≡ At l m → mag (m .0) < 20000
-
--- a time by a zone's sign and hours
-abbrev pub timeAt : Bool → ℕ → MinutesOf → TimeOf
-timeAt earlier hours (Minutes m) = At (record { 0 = pos m }) (referenceOf (record { 0 = pos m }) earlier hours)
-timeAt earlier hours NoMinutes = NoTime
-
-pub record ClockTime (time : ℕ) (earlier : Bool) (hours : ℕ) (t : TimeOf) : Type 0 where
-  pub is : t ≡ timeAt earlier hours (minutesOf time)
-  pub few : FewMinutes t
-
-pub record TimesFor (p r : Row) (s : StopTimes) : Type 0 where
-  pub is : s ≡ timesBy p r
-  pub arrival : FewMinutes (s .arrival)
-  pub departure : FewMinutes (s .departure)
 
 -- the times of a stop's row on a day, by the period of its station's own zone; 15 where no period holds the day
 unfoldable pub timesThere : PerFile (List Row) → Row → ℕ → StopTime

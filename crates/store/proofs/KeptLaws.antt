@@ -1,34 +1,18 @@
 -- The rows of a table that pass a test, one row at a time: the loop that looks for one of them. Assumes nothing.
 use Prim.Native.Nat.{ℕ, suc, _+_, _-_, _*_, _≤_, _<_}
-use mathlib.Core.Path.{_≡_, refl, ap, _∙_}
+use mathlib.Core.Path.{_≡_, ap, _∙_}
 use mathlib.Core.List.{List, [], _∷_}
-use mathlib.Core.Bool.{Bool, true, false, _&&_, cond}
+use mathlib.Core.Bool.{Bool, true, false}
 use native.Mathlib.Omega.{arith}
 use native.Mathlib.Numerals.{add-one}
-use lib.Dec.{eqb}
 use lib.ListN.{length, getD}
 use Rattle.iff.specs.Lists.{kept}
-use Rattle.iff.specs.Tables.{Row, tag, rowAt}
+use Rattle.iff.specs.Tables.{Row, rowAt}
 use Rattle.iff.specs.declared.RowOf.the-variants.{Row as RowIs, NoRow}
-use Rattle.iff_rules.specs.Order.{isStop}
-use Rattle.iff_rules.specs.Rows.{firstOf}
-use Rattle.iff_rules.specs.Legs.{lies, stopsOf}
-use Rattle.iff_desk.specs.Store.{stopAt, recordOn}
 use Rattle.tables.proofs.Rows.{row-inside}
 use Rattle.keys.specs.Blocks.{rowsBetween}
 use Rattle.walks.proofs.GroupLaws.{between-none, between-first}
-use Rattle.store.specs.Found.{RowFor, liesIn}
-
--- those that pass two tests
-pub kept-kept : (p q : Row → Bool) (rs : List Row) → kept p (kept q rs) ≡ kept (λ r. q r && p r) rs
-unfolding kept
-kept-kept p q [] = refl
-kept-kept p q (r ∷ rs) = go (q r) (kept-kept p q rs)
-  where
-    go : (b : Bool) → kept p (kept q rs) ≡ kept (λ r. q r && p r) rs
-        → kept p (cond b (r ∷ kept q rs) (kept q rs)) ≡ cond (b && p r) (r ∷ kept (λ r. q r && p r) rs) (kept (λ r. q r && p r) rs)
-    go true e = rw e
-    go false e = e
+use Rattle.store.specs.Found.{RowFor}
 
 -- a row that was looked for, and that is none
 pub row-for-none : (w : ℕ) (t : List ℕ) (row : Row) → row ≡ [] → RowFor w t row NoRow
@@ -75,33 +59,3 @@ module _ (p : Row → Bool) (w : ℕ) (t : List ℕ) (to i : ℕ) where
     pub row-past : (row : Row) (k : ℕ) → row ≡ getD (kept p (rowsBetween w t i to)) k [] → b ≡ false
         → row ≡ getD (kept p (rowsBetween w t (i + 1) to)) k []
     row-past row k q g = q ∙ rw (kept-past g)
-
--- the record of a kind that a leg lies in
-pub record-on : (kind k : ℕ) (rs : List Row) → recordOn kind k rs ≡ getD (kept (liesIn kind k) rs) 0 []
-unfolding recordOn
-record-on kind k rs = ap firstOf (kept-kept (lies k) (λ r. eqb (tag r) kind) rs)
-
--- stop `number`
-pub stop-at : (rs : List Row) (number before : ℕ) → before ≡ number - 1 → stopAt rs number ≡ getD (kept (λ r. isStop (tag r)) rs) before []
-unfolding stopAt
-stop-at rs number before e = rw e
-
--- stops counted
-pub record Counting (w : ℕ) (t : List ℕ) (from to count i : ℕ) : Type 0 where
-  pub few : count ≤ i
-  pub is : stopsOf (rowsBetween w t from to) ≡ count + stopsOf (rowsBetween w t i to)
-
-module _ (w : ℕ) (t : List ℕ) (from to : ℕ) where
-  pub none-counted : Counting w t from to 0 from
-  none-counted = record { few = omega arith; is = omega arith }
-
-  module _ (count i : ℕ) (c : Counting w t from to count i) where
-    pub all-counted : to ≤ i → count ≡ stopsOf (rowsBetween w t from to)
-    all-counted h = omega (arith, c .is, ap length (kept-none (λ r. isStop (tag r)) w t to i h))
-
-    module _ (h : i < to) (b : Bool) (e : b ≡ isStop (tag (rowAt w t i))) where
-      pub one-counted : b ≡ true → Counting w t from to (count + 1) (i + 1)
-      one-counted g = record { few = omega (arith, c .few); is = omega (arith, c .is, ap length (kept-here (λ r. isStop (tag r)) w t to i h b e g)) }
-
-      pub other-passed : b ≡ false → Counting w t from to count (i + 1)
-      other-passed g = record { few = omega (arith, c .few); is = omega (arith, c .is, ap length (kept-past (λ r. isStop (tag r)) w t to i h b e g)) }

@@ -2,4 +2,4 @@
 pub mod OnceLaws
 pub mod FirstLaws
 pub mod KeptLaws
-pub mod PartLaws
+pub mod LineLaws

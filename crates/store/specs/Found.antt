@@ -1,20 +1,16 @@
 -- What a lookup in a sound store asks of a table, and what it answers: some rows of the table, one row, or none.
-use Prim.Native.Nat.{ℕ, _+_, _-_, _*_, _≤_}
+use Prim.Native.Nat.{ℕ, _+_, _*_, _≤_}
 use mathlib.Core.Path.{_≡_}
 use mathlib.Core.List.{List}
-use mathlib.Core.Bool.{Bool, true, _&&_, cond}
-use lib.Dec.{eqb, ltb}
+use mathlib.Core.Bool.{true}
 use lib.ListN.{length}
 use Rattle.iff.specs.Bytes.{hash}
-use Rattle.iff.specs.Lists.{kept}
-use Rattle.iff.specs.Tables.{Row, tag, rowWidth, rowAt, rowsIn, keyTag, keyWord, keysOf}
+use Rattle.iff.specs.Tables.{Row, rowWidth, rowAt, rowsIn, keyTag, keyWord, keysOf}
 use Rattle.iff.specs.declared.File.{File}
 use Rattle.iff.specs.declared.RowOf.{RowOf}
 use Rattle.iff.specs.declared.RowOf.the-variants.{Row as RowIs, NoRow}
-use Rattle.iff_rules.specs.Rows.{firstOf}
-use Rattle.iff_rules.specs.Legs.{lies}
 use Rattle.iff_desk.specs.Sound.{distinct}
-use Rattle.iff_desk.specs.Store.{noRow, groupOf, holds}
+use Rattle.iff_desk.specs.Store.{noRow, groupOf}
 use Rattle.keys.specs.Blocks.{rowsBetween}
 use Rattle.store.specs.declared.Part.{Part}
 
@@ -55,15 +51,3 @@ Stands w t r = (i : ℕ) → r ≡ RowIs i → i * w + w ≤ length t
 pub record RowFor (w : ℕ) (t : List ℕ) (row : Row) (r : RowOf) : Type 0 where
   pub is : row ≡ rowOr w t r
   pub stands : Stands w t r
-
--- a row of a kind that a leg lies in
-abbrev pub liesIn : ℕ → ℕ → Row → Bool
-liesIn kind k r = eqb (tag r) kind && lies k r
-
--- the row behind a group's `#`
-abbrev pub secondOf : Part → RowOf
-secondOf p = cond (ltb 1 (p .to - p .from)) (RowIs (p .from + 1)) NoRow
-
--- the first of some periods that holds a day
-abbrev pub firstHeld : ℕ → List Row → Row
-firstHeld day rs = firstOf (kept (holds day) rs)

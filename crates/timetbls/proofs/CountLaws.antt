@@ -13,7 +13,7 @@ use Rattle.iff.specs.declared.File.the-variants.{Timetbls}
 use Rattle.tables.proofs.Filled.{fill-none, rows-in-fill}
 use Rattle.keys.specs.Lookup.{keysIn}
 use Rattle.block_rows.proofs.RowLaws.{keys-nil}
-use Rattle.timetbls.specs.Blocks.{Counted}
+use Rattle.block_walks.specs.Blocks.{Counted}
 
 -- A TABLE OF ZEROS
 pub none-counted : (t : List ℕ) → t ≡ replicate (length t) 0 → Counted t 0 0

@@ -1,3 +1,2 @@
-pub mod AddLaws
 pub mod CountLaws
-pub mod ReadLaws
+pub mod StrayLaws

@@ -6,8 +6,9 @@
 //! With a seed and a count: so many deliveries of every sort from that seed on,
 //! questions and amendments. Else all loads, all questions, all amendments, or
 //! everything. Loads: deliveries of fixed seeds and of seeds that change with the
-//! date, every cause of every refusal, limits, large ones, bytes replaced, files
-//! of the largest length. Questions: of loaded and damaged tables and of texts,
+//! date, every cause of every refusal, limits, large ones, ones with so many
+//! services that marks do not tell them apart, bytes replaced, files of the
+//! largest length. Questions: of loaded and damaged tables and of texts,
 //! by such seeds; of tables with every word and row changed; of large ones.
 //! Amendments: up to twelve in a row by such seeds, of damaged tables, by every
 //! cause in a block, of large tables, by blocks of the largest length; each also
@@ -19,6 +20,7 @@ mod asked;
 mod bytes;
 mod caused;
 mod comparison;
+mod crowded;
 mod lengths;
 mod long_blocks;
 mod made;
@@ -118,6 +120,7 @@ fn compare_loads(comparison: &mut Comparison) -> io::Result<Vec<String>> {
     complaints.extend(lengths::compare_all(comparison, &mut tally)?);
     made::compare_limits(comparison, &mut tally)?;
     made::compare_large(comparison, &mut tally)?;
+    complaints.extend(crowded::compare_all(comparison)?);
     let mut fixed = Tally::default();
     made::compare_mixed(comparison, &mut fixed, FIXED)?;
     complaints.extend(too_few_accepted(&fixed));

@@ -80,6 +80,11 @@ pub fn large(seed: u64, services: usize, rising: bool) -> (World, Case) {
     shaped(&mut Rng::new(seed), &Shape::large(services, rising))
 }
 
+/// A sound delivery with this many services, some 10 lines each, in no order.
+pub fn crowded(seed: u64, services: usize) -> (World, Case) {
+    shaped(&mut Rng::new(seed), &Shape { stops: 2..=3, ..Shape::large(services, false) })
+}
+
 /// A border that document 01 draws.
 #[derive(Clone, Copy, Debug, PartialEq, Eq)]
 pub enum Limit {

@@ -23,7 +23,9 @@ pub mod ways;
 mod world;
 
 pub use amendments::{amendment, edited, Amendment};
-pub use cases::{at_borders, damaged, large, limit, limits, mixed, of_each_sort, sound, Case, Limit};
+pub use cases::{
+    at_borders, crowded, damaged, large, limit, limits, mixed, of_each_sort, sound, Case, Limit,
+};
 pub use causes::{causes, Cause};
 pub use damage::{damage_file, TELLING_BYTES};
 pub use many::{many, Many};

@@ -12,7 +12,7 @@ returns c =
 returns-2 : tie.Need-returns-2
 returns-2 c =
     let y = c .before .before in
-    done-for _ _ _ _ (λ k a. y .before .before .before .before .count-for-groups .ensures k _ a) _ _ _ _ _ _ (y .add-groups .ensures)
+    done-for _ _ _ _ (λ k a. y .before .before .before .before .before .count-for-groups .ensures k _ a) _ _ _ _ _ _ (y .add-groups .ensures)
 
 pub read-groups-spec : {M : Type 1} → statement M
 read-groups-spec =

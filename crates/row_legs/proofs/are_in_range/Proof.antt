@@ -8,8 +8,8 @@ use Rattle.iff.specs.Tables.{rowWidth}
 use Rattle.iff.specs.declared.File.the-variants.{Timetbls}
 use Rattle.iff_rules.specs.Legs.{reachOf, inRange}
 use Rattle.tables.proofs.Rows.{row-inside}
-use Rattle.row_legs.specs.Blocks.{blockBetween}
-use Rattle.row_legs.proofs.WalkLaws.{all-none, all-not, all-on}
+use Rattle.linked_legs.specs.Links.{blockBetween}
+use Rattle.linked_legs.proofs.RowLaws.{all-none, all-not, all-on}
 use Rattle.row_legs.proofs.are_in_range.Statement.{statement}
 use Rattle.row_legs.proofs.are_in_range.Tie as tie
 

@@ -6,7 +6,7 @@ use borrow.Author.Needs.{needs}
 use borrow.Author.Tests.{not-true, not-false}
 use Rattle.iff_rules.specs.Meaning.{mostStops}
 use Rattle.legs.proofs.MarkLaws.{twice-not, marks-are}
-use Rattle.row_legs.specs.Blocks.{blockBetween}
+use Rattle.linked_legs.specs.Links.{blockBetween}
 use Rattle.row_legs.proofs.TestLaws.{kind-once}
 use Rattle.row_legs.proofs.are_marked_once.Statement.{statement}
 use Rattle.row_legs.proofs.are_marked_once.Tie as tie

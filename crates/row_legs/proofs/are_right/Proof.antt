@@ -8,7 +8,7 @@ use Rattle.iff.specs.Bytes.{percent, dash, ampersand}
 use Rattle.iff.specs.Lists.{all, any}
 use Rattle.iff_rules.specs.Legs.{reachOf, inRange, covered, ofKind}
 use Rattle.legs.specs.Rows.{covers}
-use Rattle.row_legs.specs.Blocks.{blockBetween}
+use Rattle.linked_legs.specs.Links.{blockBetween}
 use Rattle.row_legs.proofs.LinkLaws.{linked-legs}
 use Rattle.row_legs.proofs.TestLaws.{out-of-range, asks, no-numbers, no-validities, modes}
 use Rattle.row_legs.proofs.are_right.Statement.{statement}

@@ -1,7 +1,7 @@
 -- `row_legs::is_covered` meets its contract: records that follow each other cover, and of others the marks tell. Assumes nothing.
 use mathlib.Core.Path.{sym, _∙_}
 use borrow.Author.Needs.{needs}
-use Rattle.row_legs.specs.Blocks.{blockBetween}
+use Rattle.linked_legs.specs.Links.{blockBetween}
 use Rattle.row_legs.proofs.LinkLaws.{linked-covers}
 use Rattle.row_legs.proofs.is_covered.Statement.{statement}
 use Rattle.row_legs.proofs.is_covered.Tie as tie

@@ -32,8 +32,18 @@ to-framed c = c .before .before .before .before .before
 abbrev framed-if : tie.After-judge-blocks → tie.Else1
 framed-if c = c .before .before
 
+abbrev to-places : tie.After-are-right-behind → tie.After-index-in-rows
+to-places c = c .before .before .before .before
+
+-- the number of TIMETBLS' rows, and where it was told
+abbrev to-rows : tie.After-index-in-rows → tie.After-services
+to-rows c = c .before .before .before
+
+abbrev told-by : tie.After-services → tie.After-judge-blocks
+told-by c = c .before .before .before .before
+
 abbrev to-blocks : tie.After-are-right-behind → tie.After-judge-blocks
-to-blocks c = c .before .before .before .before .before .before .before
+to-blocks c = told-by (to-rows (to-places c))
 
 abbrev from-blocks : tie.After-judge-blocks → tie.Start
 from-blocks c = start (to-form (to-framed c))
@@ -82,8 +92,9 @@ returns-2 c =
 
 are-right-behind-requires : tie.Need-are-right-behind-requires
 are-right-behind-requires c κs =
-    let b = c .before .before .before .before .before .before in
-    (from-blocks b .pre .0, b .judge-blocks .ensures .rows _ (c .before .before .services .given .1))
+    let r = to-rows (c .before .before .before) in
+    let b = told-by r in
+    (from-blocks b .pre .0, b .judge-blocks .ensures .rows _ (r .services .given .1))
 
 returns-3 : tie.Need-returns-3
 returns-3 c =
@@ -108,7 +119,7 @@ returns-4 c =
     ∙ ap (has (ownCompany (a .first .now))) (keys-counted (Rows Company) (a .company .now) (a .used .company) (s .pre .0 .company))
     ∙ by-company (tables s) (a .first .now) (s .pre .1) _ (f .form-of .ensures) (s .pre .3)
     (sym (r .are-framed .ensures) ∙ not-false _ (framed-if b .if1 .left))
-    (sym (timetbls-is b) ∙ ap isRight (h .before .before .before .services .given .1))
+    (sym (timetbls-is b) ∙ ap isRight (to-rows (to-places h) .services .given .1))
     (sym (h .are-right-behind .ensures (form-is (tables s) (a .first .now) (s .pre .1) _ (f .form-of .ensures) (s .pre .3)))
     ∙ not-false _ (i .if2 .left))
 
@@ -128,6 +139,7 @@ are-all-sound-spec =
     (λ c. search needs)
     (λ c. search needs)
     returns-2
+    (λ c κs. search needs)
     are-right-behind-requires
     (λ c. search needs)
     returns-3

@@ -11,11 +11,11 @@ use Rattle.sound_behind.proofs.are_rows_right.Tie as tie
 
 -- from the test of what went before back to the start
 abbrev from-so-far : tie.Else1 → tie.Start
-from-so-far c = c .before .before .before .before
+from-so-far c = c .before .before .before .before .before
 
 returns : tie.Need-returns
 returns c x form agree =
-    let a = c .before .before .before .before .args in
+    let a = c .before .before .before .before .before .args in
     handed-on (a .so-far) _ (not-true (a .so-far) (c .if1 .taken))
 
 returns-2 : tie.Need-returns-2

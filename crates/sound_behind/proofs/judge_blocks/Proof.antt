@@ -13,7 +13,7 @@ use Rattle.iff.specs.declared.File.the-variants.{Timetbls}
 use Rattle.iff_rules.specs.Rows.{Context}
 use Rattle.references.specs.Agree.{BlockKeysAmong}
 use Rattle.walks.proofs.TableLaws.{inside, tag-first}
-use Rattle.sound_blocks.specs.Walk.{areSound, BlocksTold}
+use Rattle.sound_timetbls.specs.Told.{areSound, BlocksTold}
 use Rattle.sound_frames.specs.Frames.{framed}
 use Rattle.sound_frames.proofs.FrameLaws.{no-key, not-first, not-zero}
 use Rattle.sound_behind.specs.Behind.{behind}

@@ -1,5 +1,5 @@
 -- `first_word` meets its contract: the first row in use is row 0. Assumes nothing.
-use Rattle.store.proofs.PartLaws.{first-none, first-stands, first-is}
+use Rattle.store.proofs.LineLaws.{first-none, first-stands, first-is}
 use Rattle.store.proofs.first_word.Statement.{statement}
 use Rattle.store.proofs.first_word.Tie as tie
 

@@ -12,7 +12,7 @@ use Rattle.iff_rules.specs.Rows.{Context, flag}
 use Rattle.references.specs.Agree.{BlockKeys}
 use Rattle.reading.specs.Reading.{beginTest}
 use Rattle.heads.proofs.FileLaws.{some-lines, absent, passed, first-refused, rows-refused, rows-accepted, flag-fits}
-use Rattle.timetbls.specs.Blocks.{asRead}
+use Rattle.block_walks.specs.Blocks.{asRead}
 use Rattle.timetbls.proofs.CountLaws.{none-counted, still-counted}
 use Rattle.timetbls.proofs.read_timetbls.Statement.{statement}
 use Rattle.timetbls.proofs.read_timetbls.Tie as tie

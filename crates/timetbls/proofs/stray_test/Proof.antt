@@ -1,6 +1,6 @@
 -- `timetbls::stray_test` meets its contract: each way out is one of the laws of a stray line. Assumes nothing.
 use borrow.Author.Needs.{needs}
-use Rattle.timetbls.proofs.AddLaws.{stray-none, stray-open, stray-known, stray-unknown}
+use Rattle.timetbls.proofs.StrayLaws.{stray-none, stray-open, stray-known, stray-unknown}
 use Rattle.timetbls.proofs.stray_test.Statement.{statement}
 use Rattle.timetbls.proofs.stray_test.Tie as tie
 

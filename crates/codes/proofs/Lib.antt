@@ -1,0 +1,2 @@
+-- laws for callers
+pub mod CodeLaws

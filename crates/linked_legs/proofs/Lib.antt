@@ -1,0 +1,3 @@
+-- laws for callers
+pub mod RowLaws
+pub mod LinkingLaws

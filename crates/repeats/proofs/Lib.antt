@@ -1,0 +1,4 @@
+pub mod SetLaws
+pub mod ClassLaws
+pub mod KeyLaws
+pub mod RowLaws
