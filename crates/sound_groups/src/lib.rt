@@ -14,6 +14,7 @@ ghost use Rattle.iff_desk.specs.Sound.{soundGroup, soundGroups};
 ghost use Rattle.keys.specs.Blocks.{rowsBetween};
 ghost use Rattle.references.specs.Agree.{GroupKeysAmong};
 ghost use Rattle.sound_group_rows.specs.Told.{Told, groupAt};
+ghost use Rattle.sound_groups.specs.Marked.{toldByMarks};
 
 // The group from row `from` on and before row `to`. The marks may be anything: none of its rows was remembered before its first.
 fn is_group_sound(
@@ -154,7 +155,9 @@ fn walk_marked(
 }
 
 // Whether marks tell the rows of a file's groups apart: those of one station, and not the periods of a zone.
-fn is_told_by_marks(file: GroupFile) -> bool {
+fn is_told_by_marks(file: GroupFile) -> bool
+    ensures { λ r. ⌜ r ≡ toldByMarks file ⌝ }
+{
     match file {
         GroupFile::Timezone => false,
         GroupFile::Footnote => false,
