@@ -71,7 +71,7 @@ impl Shape {
             zones: 1..=2,
             stations: 2..=3,
             services: 2..=4,
-            stops: 3..=6,
+            stops: 4..=7,
             at_borders,
             overnight: true,
             ..Shape::small(rng)

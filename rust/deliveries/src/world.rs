@@ -256,7 +256,7 @@ fn short_periods(rng: &mut Rng, world: &World) -> Vec<(i64, i64)> {
     while first <= end {
         let last = (first + few(rng)).min(calendar::LAST);
         periods.push((first, last));
-        let gap = if world.at_borders && rng.percent(50) { 1 + few(rng) } else { 0 };
+        let gap = if world.at_borders && rng.percent(60) { 1 + few(rng) } else { 0 };
         first = last + 1 + gap;
     }
     periods
