@@ -179,7 +179,7 @@ impl<'c> Desk<'c> {
     }
 
     /// Asks for a change again, of tables in which its gap is just what is
-    /// needed, and a minute less.
+    /// needed, and a minute less, where B's clocks stay.
     fn compare_borders(
         &mut self,
         name: &str,

@@ -230,10 +230,10 @@ fn odd_questions(desk: &Desk) -> Vec<String> {
     [&desk.questions, &desk.clocks, &desk.soundness].into_iter().flat_map(odd_outcomes).collect()
 }
 
-/// The outcomes that document 01 shuts out.
+/// The outcomes that the documents shut out.
 fn odd_outcomes(outcomes: &Outcomes) -> impl Iterator<Item = String> + '_ {
     let odd = outcomes.unexpected().into_iter();
-    odd.map(|outcome| format!("`{outcome}` cannot occur by document 01, and did."))
+    odd.map(|outcome| format!("`{outcome}` cannot occur by the documents, and did."))
 }
 
 fn too_few_accepted(tally: &Tally) -> Option<String> {

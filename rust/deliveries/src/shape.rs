@@ -28,7 +28,7 @@ pub struct Shape {
     /// validity, attributes at a single stop, days at the calendar's end.
     pub at_borders: bool,
     /// Whether services run over midnight, often just up to it, while the clocks
-    /// change: zones have periods of a few days each.
+    /// change: zones have periods of a day or two each.
     pub overnight: bool,
     /// Whether the last three files are there at all.
     pub changes: bool,

@@ -100,7 +100,7 @@ impl fmt::Display for Tally {
     }
 }
 
-/// What the desk's questions can come to by document 01. A stop has an arrival,
+/// What the desk's questions can come to by documents 01 and 02. A stop has an arrival,
 /// a departure or both, never neither.
 pub const OF_QUESTIONS: &[&str] = &[
     "running day: runs",
@@ -153,8 +153,8 @@ pub const OF_QUESTIONS: &[&str] = &[
     "lines now: refused 12",
 ];
 
-/// What questions can tell of clocks, where a time falls on another day than the
-/// service day: by which of the two days a program goes shows in each of these.
+/// What questions can tell of clocks: by which day a program goes, the service day
+/// or that of the time itself, and from which minute on.
 pub const OF_CLOCKS: &[&str] = &[
     "stop time: arrival by other hours than the service day's",
     "stop time: departure by other hours than the service day's",

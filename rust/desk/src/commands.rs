@@ -277,8 +277,14 @@ impl Desk {
         let mut text = format!("{verdict}: {why}\n");
         text += &side("leave", from, left.station, "arrives", arrival, "nobody alights");
         text += &side("board", to, boarded.station, "departs", departure, "nobody boards");
-        if let Some(gap) = change.gap {
-            text += &format!("  gap     {}\n", dates::length(i64::from(gap)));
+        if let Some(gap) = change.gap.map(i64::from) {
+            let by_clocks = arrival.zip(departure).and_then(|(arrival, departure)| {
+                dates::between((arrival, from.date), (departure, to.date)).filter(|&minutes| minutes != gap)
+            });
+            let by_clocks = by_clocks.map_or(String::new(), |minutes| {
+                format!("; by the station's clocks {}: they change in between", dates::length(minutes))
+            });
+            text += &format!("  gap     {}{by_clocks}\n", dates::length(gap));
         }
         if let Some(source) = change.source {
             let needed = change

@@ -189,6 +189,13 @@ pub fn beside(local: i64, reference: i64, service_day: u64) -> String {
     }
 }
 
+/// The minutes from one time to another as the clocks show them, each with its
+/// service day.
+pub fn between(from: (i64, u64), to: (i64, u64)) -> Option<i64> {
+    let shown = |(minutes, day): (i64, u64)| Some(count(day)? * MINUTES_IN_DAY + minutes);
+    Some(shown(to)? - shown(from)?)
+}
+
 /// A time as it is written, HHMM.
 pub fn clock(written: u64) -> i64 {
     (written / 100 * 60 + written % 100) as i64

@@ -220,6 +220,9 @@ Unsettled: the needed time is 99, the highest number its two columns can hold: t
   needed  99 minutes (1 h 39), by STATIONS
 ";
     assert_eq!(ask("change 1 2 26032016 3 1 27032016").out, unsettled);
+    // 460 + 2 * 1440 - 1830, where the clocks show 520 + 2 * 1440 - 1830.
+    let apart = "  gap     1510 minutes (25 h 10); by the station's clocks 1570 minutes (26 h 10): they change in between\n";
+    ask("change 1 2 25032016 3 1 27032016").is(4, apart);
     let told = ask("change 1 2 26032016 3 1 27032016 --json").json();
     assert_eq!([&told["from"]["local"], &told["from"]["date"]], [&json!(1830), &json!("27032016")]);
     assert_eq!([&told["to"]["local"], &told["to"]["date"]], [&json!(520), &json!("27032016")]);
