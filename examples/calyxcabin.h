@@ -71,7 +71,8 @@ uint64_t calyxcabin_is_sound(CALYXCABIN_ELEVEN(const uint64_t));
 void calyxcabin_running_day(CALYXCABIN_ELEVEN(const uint64_t), uint64_t service, uint64_t leg, uint64_t date, uint64_t *answer);
 
 /* answer[4]: the refusal's number, or 0; the station's short name, packed with its first byte highest; 1 where there is an arrival; 1 where
- * there is a departure. minutes[4]: arrival local and reference, departure local and reference; 0 where there is none. */
+ * there is a departure. minutes[4]: arrival local and reference, departure local and reference; 0 where there is none. All count from 0000 of the
+ * service day; reference minutes go by the zone's period on the day that the local ones fall on. */
 void calyxcabin_stop_time(
     CALYXCABIN_ELEVEN(const uint64_t), uint64_t service, uint64_t stop, uint64_t date, uint64_t *answer, int32_t *minutes);
 

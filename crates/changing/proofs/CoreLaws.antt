@@ -1,4 +1,4 @@
--- The core of a change, step by step: the hurdles, 15 for either station, the verdict. Assumes nothing.
+-- The core of a change, step by step: the hurdles, 15 for either time, the verdict. Assumes nothing.
 use Prim.Native.Nat.{ℕ}
 use mathlib.Core.Path.{_≡_, refl, ap, sym, _∙_}
 use mathlib.Core.List.{List}
@@ -11,37 +11,33 @@ use Rattle.iff.specs.declared.Reason.the-variants.{NoPeriod}
 use Rattle.iff.specs.declared.Test.{Test}
 use Rattle.iff.specs.declared.Test.the-variants.{Passes, Fails}
 use Rattle.iff.specs.declared.File.the-variants.{Timetbls}
-use Rattle.iff_desk.specs.Store.{groupOf, serviceRows, stopAt, periodOn, isThere}
-use Rattle.iff_desk.specs.Changing.{Hurdle, stop, clear, firstHurdle, afterHurdles, changeAfter, coreChange}
+use Rattle.iff_desk.specs.Store.{groupOf, serviceRows, stopAt}
+use Rattle.iff_desk.specs.Changing.{Hurdle, stop, clear, firstHurdle, toldTest, timeTold, afterHurdles, changeAfter, coreBy, coreChange}
 use Rattle.iff_desk.specs.declared.Call.{Call}
 use Rattle.iff_desk.specs.declared.Early.{Early}
 use Rattle.iff_desk.specs.declared.Early.the-variants.{SameService}
+use Rattle.iff_desk.specs.declared.TimeOf.{TimeOf}
+use Rattle.iff_desk.specs.declared.ToldTime.{ToldTime}
+use Rattle.iff_desk.specs.declared.ToldTime.the-variants.{Told, Untold}
 use Rattle.iff_desk.specs.declared.Change.{Change}
 use Rattle.iff_desk.specs.declared.Change.the-variants.{ChangeRefused, NoBefore}
-use Rattle.changing.specs.Sides.{stopFound, SideFor, isSame, laterHurdle, verdictBy, periodTests, judgedOn, laterOf, laterChange}
+use Rattle.changing.specs.Sides.{stopFound, SideFor, isSame, laterHurdle, arrivalFrom, departureTo, verdictBy, judgedOn, laterOf, laterChange}
 use Rattle.needed_times.specs.Needed.{rowsFound}
 use Rattle.needed_times.specs.declared.SideRows.{SideRows}
 
 -- 15
-module _ (pa pb : Row) (c : Change) where
-  pub no-first : isThere pa ≡ false → ChangeRefused NoPeriod ≡ changeAfter (periodTests pa pb) c
+module _ (R : PerFile (List Row)) (aRows bRows : List Row) (station : ℕ) (A B : Call) (a b x y : ToldTime) (p : x ≡ a) (q : y ≡ b) where
+  pub no-first : x ≡ Untold → ChangeRefused NoPeriod ≡ judgedOn R aRows bRows a b station A B
   unfolding firstTest
-  no-first h = rw h
+  no-first e = rw (← p, e)
 
-  pub no-second : isThere pa ≡ true → isThere pb ≡ false → ChangeRefused NoPeriod ≡ changeAfter (periodTests pa pb) c
+  pub no-second : (t : TimeOf) → x ≡ Told t → y ≡ Untold → ChangeRefused NoPeriod ≡ judgedOn R aRows bRows a b station A B
   unfolding firstTest
-  no-second h g = rw (h, g)
+  no-second t e f = rw (← p, ← q, e, f)
 
-  pub both-there : isThere pa ≡ true → isThere pb ≡ true → c ≡ changeAfter (periodTests pa pb) c
+  pub both-told : (t u : TimeOf) → x ≡ Told t → y ≡ Told u → verdictBy R aRows bRows t u station A B ≡ judgedOn R aRows bRows a b station A B
   unfolding firstTest
-  both-there h g = rw (h, g)
-
--- the verdict by the periods' own rows
-pub same-periods : (R : PerFile (List Row)) (aRows bRows : List Row) (a b pa pa' pb pb' : Row) (station : ℕ) (A B : Call) → pa ≡ pa' → pb ≡ pb'
-    → verdictBy R aRows bRows a b pa' pb' station A B ≡ verdictBy R aRows bRows a b pa pb station A B
-same-periods R aRows bRows a b pa pa' pb pb' station A B p q =
-    ap (λ (x : Row). verdictBy R aRows bRows a b x pb' station A B) (sym p)
-    ∙ ap (λ (x : Row). verdictBy R aRows bRows a b pa x station A B) (sym q)
+  both-told t u e f = rw (← p, ← q, e, f)
 
 -- the hurdles that ask for rows, then 15 and the verdict
 after-clear : (t : Test) (c : Change) → changeAfter t c ≡ afterHurdles clear t c
@@ -49,19 +45,23 @@ after-clear Passes c = refl
 after-clear (Fails r) c = refl
 
 module _ (R : PerFile (List Row)) (aRows bRows : List Row) (a b : Row) (station other : ℕ) (A B : Call) where
-  abbrev tests : Test
-  tests = periodTests (periodOn R station (A .day)) (periodOn R other (B .day))
+  abbrev arrival : ToldTime
+  arrival = arrivalFrom R a station A
+
+  abbrev departure : ToldTime
+  departure = departureTo R b other B
 
   abbrev verdict : Change
-  verdict = verdictBy R aRows bRows a b (periodOn R station (A .day)) (periodOn R other (B .day)) station A B
+  verdict = verdictBy R aRows bRows (timeTold arrival) (timeTold departure) station A B
 
   pub later-stops : (e : Early) → laterHurdle R aRows bRows A B ≡ stop e → NoBefore e ≡ laterOf R aRows bRows a b station other A B
   unfolding laterOf
-  later-stops e q = sym (ap (λ (h : Hurdle). afterHurdles h tests verdict) q)
+  later-stops e q = sym (ap (λ (h : Hurdle). afterHurdles h (toldTest arrival departure) verdict) q)
 
-  pub later-clear : laterHurdle R aRows bRows A B ≡ clear → judgedOn R aRows bRows a b station other A B ≡ laterOf R aRows bRows a b station other A B
+  pub later-clear : laterHurdle R aRows bRows A B ≡ clear
+      → judgedOn R aRows bRows arrival departure station A B ≡ laterOf R aRows bRows a b station other A B
   unfolding laterOf
-  later-clear q = after-clear tests verdict ∙ sym (ap (λ (h : Hurdle). afterHurdles h tests verdict) q)
+  later-clear q = after-clear (toldTest arrival departure) verdict ∙ sym (ap (λ (h : Hurdle). afterHurdles h (toldTest arrival departure) verdict) q)
 
 -- rows, stops and stations are those that were found
 module _ (R : PerFile (List Row)) (tt : List ℕ) (A B : Call) (a b : SideRows) (e : R .timetbls ≡ rowsIn Timetbls tt) (s : SideFor tt A a)
@@ -100,9 +100,9 @@ module _ (R : PerFile (List Row)) (tt : List ℕ) (A B : Call) (a b : SideRows) 
 -- the first hurdle
 module _ (R : PerFile (List Row)) (A B : Call) where
   pub one-service : isSame A B ≡ true → NoBefore SameService ≡ coreChange R A B
-  unfolding coreChange firstHurdle
+  unfolding coreChange coreBy firstHurdle
   one-service h = rw h
 
   pub two-services : isSame A B ≡ false → laterChange R A B ≡ coreChange R A B
-  unfolding coreChange laterOf firstHurdle
+  unfolding coreChange coreBy laterOf firstHurdle
   two-services h = rw h

@@ -1,5 +1,4 @@
 pub mod ZoneLaws
-pub mod GapLaws
 pub mod HurdleLaws
 pub mod CoreLaws
 pub mod AskLaws

@@ -1,19 +1,21 @@
 -- The tables that a change reads: DELIVERY, TIMEZONE, STATIONS, FOOTNOTE, TIMETBLS, CHANGES, XFOOTNOTE, XCHANGES, in this order.
-use Prim.Native.Nat.{ℕ, _≤_, _<_}
+use Prim.Native.Nat.{ℕ, _≤_}
 use mathlib.Core.Path.{_≡_}
 use mathlib.Core.List.{List}
 use Rattle.iff.specs.Files.{PerFile}
 use Rattle.iff.specs.Days.{span, longest}
-use Rattle.iff.specs.Tables.{Row, rowWidth, rowsIn}
-use Rattle.iff.specs.Words.{firstDay, lastDay, hours}
-use Rattle.iff.specs.declared.RowOf.{RowOf}
+use Rattle.iff.specs.Tables.{Row, rowsIn}
+use Rattle.iff.specs.Words.{firstDay, lastDay}
 use Rattle.iff.specs.declared.RowFile.the-variants.{Stations}
 use Rattle.iff.specs.declared.GroupFile.the-variants.{Timezone, Footnote, Changes, Xfootnote, Xchanges}
 use Rattle.iff.specs.declared.File.the-variants.{Delivery, Rows, Groups, Timetbls}
 use Rattle.iff_rules.specs.Rows.{firstOf}
-use Rattle.iff_desk.specs.Store.{periodOn}
-use Rattle.store.specs.Found.{Stored, rowOr, Stands}
-use Rattle.stop_times.specs.Times.{FewHours}
+use Rattle.iff_desk.specs.declared.TimeOf.{TimeOf}
+use Rattle.iff_desk.specs.declared.ToldTime.{ToldTime}
+use Rattle.iff_desk.specs.declared.ToldTime.the-variants.{Told}
+use Rattle.store.specs.Found.{Stored}
+use Rattle.zone_times.specs.Clocks.{FewMinutes}
+use Rattle.day_times.specs.Told.{FewHours}
 use Rattle.needed_times.specs.declared.StoreCounts.{StoreCounts}
 
 -- ROWS THAT ARE THOSE OF THE LENT TABLES, and of the other files any: what tells the periods, what gives a needed time, and all
@@ -56,15 +58,7 @@ pub record Ready (n : StoreCounts) (d tz st fo tt ch xf xc : List ℕ) : Type 0 
   pub needs : NeedReady n ch xf xc
   pub days : FewDays d
 
--- A PERIOD that was looked for: that of the station's own zone on a day
-pub record PeriodFor (d tz st : List ℕ) (station day : ℕ) (r : RowOf) : Type 0 where
-  pub is : (R : PerFile (List Row)) → ZoneRows R d tz st → periodOn R station day ≡ rowOr (rowWidth (Groups Timezone)) tz r
-  pub stands : Stands (rowWidth (Groups Timezone)) tz r
-  pub few : hours (rowOr (rowWidth (Groups Timezone)) tz r) < 100
-
--- A STOP'S TIMES on a day can be told: its row and the period stand in their tables, and the numbers are few
-pub record Timed (tz tt : List ℕ) (row period : RowOf) (day : ℕ) : Type 0 where
-  pub rowStands : Stands (rowWidth Timetbls) tt row
-  pub periodStands : Stands (rowWidth (Groups Timezone)) tz period
-  pub fewHours : hours (rowOr (rowWidth (Groups Timezone)) tz period) < 100
-  pub fewDays : day < longest
+-- A TIME that was told, by rows that are those of the tables
+pub record ToldOf (d tz st : List ℕ) (told : PerFile (List Row) → ToldTime) (t : ToldTime) : Type 0 where
+  pub is : (R : PerFile (List Row)) → ZoneRows R d tz st → t ≡ told R
+  pub few : (x : TimeOf) → t ≡ Told x → FewMinutes x

@@ -5,18 +5,18 @@ use mathlib.Core.List.{List, [], _∷_}
 use mathlib.Core.Bool.{Bool, not, _&&_}
 use lib.Dec.{eqb, leb}
 use Rattle.iff.specs.Files.{PerFile}
-use Rattle.iff.specs.Refusals.{firstTest, unless}
 use Rattle.iff.specs.Tables.{Row, rowWidth, rowsIn}
 use Rattle.iff.specs.Words.{named}
-use Rattle.iff.specs.declared.Reason.the-variants.{NoPeriod}
 use Rattle.iff.specs.declared.Test.{Test}
 use Rattle.iff.specs.declared.File.the-variants.{Timetbls}
 use Rattle.iff_rules.specs.Legs.{stopsOf}
-use Rattle.iff_desk.specs.Store.{serviceRows, groupOf, stopAt, periodOn, isThere}
+use Rattle.iff_desk.specs.Store.{serviceRows, groupOf, stopAt, numberOn}
 use Rattle.iff_desk.specs.Running.{runsOn, asked, isLeg}
-use Rattle.iff_desk.specs.Stops.{mayAlight, mayBoard, timesBy}
-use Rattle.iff_desk.specs.Changing.{Side, Hurdle, stop, clear, stopIf, firstHurdle, gapBetween, afterHurdles, changeAfter}
+use Rattle.iff_desk.specs.Stops.{arrivalOf, departureOf, mayAlight, mayBoard, toldOn}
+use Rattle.iff_desk.specs.Changing.{Side, Hurdle, stop, clear, stopIf, firstHurdle, gapBetween, toldTest, timeTold, afterHurdles, changeAfter}
 use Rattle.iff_desk.specs.declared.Call.{Call}
+use Rattle.iff_desk.specs.declared.TimeOf.{TimeOf}
+use Rattle.iff_desk.specs.declared.ToldTime.{ToldTime}
 use Rattle.iff_desk.specs.declared.Change.{Change}
 use Rattle.iff_desk.specs.declared.Early.the-variants.{FromRests, ToRests, StationsDiffer, NobodyAlights, NobodyBoards}
 use Rattle.store.specs.Found.{rowOr, Inside, RowFor}
@@ -73,25 +73,30 @@ laterHurdle R aRows bRows A B =
 abbrev pub isSame : Call → Call → Bool
 isSame A B = eqb (A .service) (B .service) && eqb (A .day) (B .day)
 
--- the gap by two periods, and the verdict on it
-abbrev pub verdictBy : PerFile (List Row) → List Row → List Row → Row → Row → Row → Row → ℕ → Call → Call → Change
-verdictBy R aRows bRows a b pa pb station A B =
-    verdictOn R (gapBetween (timesBy pa a .arrival) (A .day) (timesBy pb b .departure) (B .day)) aRows bRows station A B
+-- A's arrival and B's departure, of their stops' rows at their stations
+abbrev pub arrivalFrom : PerFile (List Row) → Row → ℕ → Call → ToldTime
+arrivalFrom R a station A = toldOn R station (numberOn R (A .day)) (arrivalOf a)
 
--- 15 before it, for either station
-abbrev pub periodTests : Row → Row → Test
-periodTests pa pb = firstTest (unless (isThere pa) NoPeriod ∷ unless (isThere pb) NoPeriod ∷ [])
+abbrev pub departureTo : PerFile (List Row) → Row → ℕ → Call → ToldTime
+departureTo R b station B = toldOn R station (numberOn R (B .day)) (departureOf b)
 
-abbrev pub judgedOn : PerFile (List Row) → List Row → List Row → Row → Row → ℕ → ℕ → Call → Call → Change
-judgedOn R aRows bRows a b station other A B =
-    changeAfter (periodTests (periodOn R station (A .day)) (periodOn R other (B .day)))
-    (verdictBy R aRows bRows a b (periodOn R station (A .day)) (periodOn R other (B .day)) station A B)
+-- the gap between two times, and the verdict on it
+abbrev pub verdictBy : PerFile (List Row) → List Row → List Row → TimeOf → TimeOf → ℕ → Call → Call → Change
+verdictBy R aRows bRows arrival departure station A B =
+    verdictOn R (gapBetween arrival (A .day) departure (B .day)) aRows bRows station A B
+
+-- 15 before it, for either time
+abbrev pub judgedOn : PerFile (List Row) → List Row → List Row → ToldTime → ToldTime → ℕ → Call → Call → Change
+judgedOn R aRows bRows arrival departure station A B =
+    changeAfter (toldTest arrival departure) (verdictBy R aRows bRows (timeTold arrival) (timeTold departure) station A B)
 
 -- the core but for the first hurdle, of two services' rows, their stops and the stations there
 unfoldable pub laterOf : PerFile (List Row) → List Row → List Row → Row → Row → ℕ → ℕ → Call → Call → Change
 laterOf R aRows bRows a b station other A B =
-    afterHurdles (laterHurdle R aRows bRows A B) (periodTests (periodOn R station (A .day)) (periodOn R other (B .day)))
-    (verdictBy R aRows bRows a b (periodOn R station (A .day)) (periodOn R other (B .day)) station A B)
+    let arrival = arrivalFrom R a station A in
+    let departure = departureTo R b other B in
+    afterHurdles (laterHurdle R aRows bRows A B) (toldTest arrival departure)
+    (verdictBy R aRows bRows (timeTold arrival) (timeTold departure) station A B)
 
 abbrev pub laterChange : PerFile (List Row) → Call → Call → Change
 laterChange R A B =

@@ -5,13 +5,13 @@ use iff::DayOf;
 use iff::File;
 use iff::GroupFile;
 use iff::Reason;
-use iff::RowOf;
 use iff::Test;
 use iff::words;
 use iff_desk::Call;
 use iff_desk::Change;
 use iff_desk::Early;
 use iff_desk::TimeOf;
+use iff_desk::ToldTime;
 use needed_times::SideRows;
 use needed_times::StoreCounts;
 ghost use mathlib.Core.Path.{_≡_};
@@ -23,17 +23,16 @@ ghost use Rattle.iff.specs.Days.{longest};
 ghost use Rattle.iff.specs.Files.{PerFile};
 ghost use Rattle.iff.specs.Tables.{Row, rowWidth, rowsIn};
 ghost use Rattle.iff.specs.declared.RowFile.the-variants.{Stations};
-ghost use Rattle.iff.specs.declared.GroupFile.the-variants.{Timezone, Footnote, Changes, Xfootnote, Xchanges};
+ghost use Rattle.iff.specs.declared.GroupFile.the-variants.{Footnote, Changes, Xfootnote, Xchanges};
 ghost use Rattle.iff.specs.declared.File.the-variants.{Delivery, Rows, Groups, Timetbls};
 ghost use Rattle.iff_desk.specs.Store.{numberOn};
-ghost use Rattle.iff_desk.specs.Stops.{timesBy};
 ghost use Rattle.iff_desk.specs.Changing.{callOf, gapBetween, coreChange, precheck as precheckOf, changeAfter};
-ghost use Rattle.store.specs.Found.{Stored, rowsOf, rowOr, Inside};
+ghost use Rattle.store.specs.Found.{Stored, Stands, Inside};
 ghost use Rattle.zone_times.specs.Clocks.{FewMinutes};
 ghost use Rattle.needed_times.specs.Needed.{rowsFound};
-ghost use Rattle.changing.specs.Agree.{ZoneRows, NeedRows, RowsOf, ZonesReady, NeedReady, Ready, PeriodFor, Timed};
+ghost use Rattle.changing.specs.Agree.{ZoneRows, NeedRows, RowsOf, ZonesReady, NeedReady, Ready, ToldOf};
 ghost use Rattle.changing.specs.Sides.{SideFor, sideOf, stopFound, hurdleOf, runHurdle, stopHurdle, laterHurdle, isSame};
-ghost use Rattle.changing.specs.Sides.{verdictBy, judgedOn, laterChange, askedFrom, askedTo};
+ghost use Rattle.changing.specs.Sides.{arrivalFrom, departureTo, verdictBy, judgedOn, laterChange, askedFrom, askedTo};
 
 // One side of a change as it is asked: a service, a stop of it, and a date.
 pub struct Visit {
@@ -69,7 +68,9 @@ fn find_side(timetbls: &[u64], used: usize, places: &[u32], call: Call) -> SideR
 // A day of validity, counted from the first day, as a day's number.
 fn number_on(delivery: &[u64], used: usize, day: u64) -> u64
     requires { ⌜ Stored Delivery used (now delivery) × (day < longest) ⌝ }
-    ensures { λ r. ⌜ ((R : PerFile (List Row)) → R .delivery ≡ rowsIn Delivery (now (delivery .entry)) → r ≡ numberOn R day) ⌝ }
+    ensures { λ r. ⌜
+        ((R : PerFile (List Row)) → R .delivery ≡ rowsIn Delivery (now (delivery .entry)) → r ≡ numberOn R day) × (r < 4000000)
+        ⌝ }
 {
     match calendar::day_of(store::first_word(delivery, used, words::FIRST_DAY)) {
         DayOf::Day(first) => first + day,
@@ -77,28 +78,75 @@ fn number_on(delivery: &[u64], used: usize, day: u64) -> u64
     }
 }
 
-// The period of a station's own zone on a day of validity, counted from the first day.
-fn period_on(
+// When the service changed from arrives, and the one changed to departs: each by the period of that time's own day at its own station.
+fn arrival_from(
     delivery: &[u64],
     zones: &[u64],
     stations: &[u64],
+    timetbls: &[u64],
     places: &[u32],
     counts: StoreCounts,
-    station: u64,
-    day: u64,
-) -> RowOf
-    requires { ⌜ ZonesReady counts (now delivery) (now zones) (now stations) × (day < longest) ⌝ }
-    ensures { λ r. ⌜ PeriodFor (now (delivery .entry)) (now (zones .entry)) (now (stations .entry)) station day r ⌝ }
+    side: SideRows,
+    call: Call,
+) -> ToldTime
+    requires { ⌜
+        ZonesReady counts (now delivery) (now zones) (now stations)
+        × Stands (rowWidth Timetbls) (now timetbls) (side .row)
+        × (call .day < longest)
+        ⌝ }
+    ensures { λ r. ⌜
+        ToldOf (now (delivery .entry)) (now (zones .entry)) (now (stations .entry))
+        (λ R. arrivalFrom R (stopFound (now (timetbls .entry)) side) (side .station) call) r
+        ⌝ }
 {
-    let number = number_on(delivery, counts.delivery, day);
-    zone_times::period_by_number(
+    let row = side.row;
+    let number = number_on(delivery, counts.delivery, call.day);
+    day_times::arrival_on(
+        timetbls,
+        row,
         zones,
         counts.timezone,
         places,
         stations,
         counts.stations,
         places,
-        station,
+        side.station,
+        number,
+    )
+}
+
+fn departure_to(
+    delivery: &[u64],
+    zones: &[u64],
+    stations: &[u64],
+    timetbls: &[u64],
+    places: &[u32],
+    counts: StoreCounts,
+    side: SideRows,
+    call: Call,
+) -> ToldTime
+    requires { ⌜
+        ZonesReady counts (now delivery) (now zones) (now stations)
+        × Stands (rowWidth Timetbls) (now timetbls) (side .row)
+        × (call .day < longest)
+        ⌝ }
+    ensures { λ r. ⌜
+        ToldOf (now (delivery .entry)) (now (zones .entry)) (now (stations .entry))
+        (λ R. departureTo R (stopFound (now (timetbls .entry)) side) (side .station) call) r
+        ⌝ }
+{
+    let row = side.row;
+    let number = number_on(delivery, counts.delivery, call.day);
+    day_times::departure_on(
+        timetbls,
+        row,
+        zones,
+        counts.timezone,
+        places,
+        stations,
+        counts.stations,
+        places,
+        side.station,
         number,
     )
 }
@@ -119,39 +167,6 @@ fn gap_of(arrival: TimeOf, arrival_day: u64, departure: TimeOf, departure_day: u
         },
         TimeOf::NoTime => 0,
     }
-}
-
-// From the arrival at one stop to the departure from another, by their rows and the periods of their zones.
-fn gap_between(
-    zones: &[u64],
-    timetbls: &[u64],
-    alight: RowOf,
-    alight_period: RowOf,
-    alight_day: u64,
-    board: RowOf,
-    board_period: RowOf,
-    board_day: u64,
-) -> i32
-    requires { ⌜
-        Timed (now zones) (now timetbls) alight «alight_period» «alight_day»
-        × Timed (now zones) (now timetbls) board «board_period» «board_day»
-        ⌝ }
-    ensures { λ r. ⌜
-        r
-        ≡ gapBetween
-        (timesBy (rowOr (rowWidth (Groups Timezone)) (now (zones .entry)) «alight_period») (rowOr (rowWidth Timetbls) (now (timetbls .entry)) alight)
-        .arrival)
-        «alight_day»
-        (timesBy (rowOr (rowWidth (Groups Timezone)) (now (zones .entry)) «board_period») (rowOr (rowWidth Timetbls) (now (timetbls .entry)) board)
-        .departure)
-        «board_day»
-        ⌝ }
-{
-    let there = zone_times::times_by(timetbls, alight, zones, alight_period);
-    let here = zone_times::times_by(timetbls, board, zones, board_period);
-    let arrival = there.arrival;
-    let departure = here.departure;
-    gap_of(arrival, alight_day, departure, board_day)
 }
 
 // THE FIRST NO
@@ -248,9 +263,8 @@ fn later_hurdle(
 
 // THE CORE
 
-// The gap by the periods of both stations, and the verdict on it.
+// The gap between two times, and the verdict on it.
 fn weighed(
-    zones: &[u64],
     stations: &[u64],
     timetbls: &[u64],
     changes: &[u64],
@@ -258,16 +272,18 @@ fn weighed(
     xchanges: &[u64],
     places: &[u32],
     counts: StoreCounts,
-    alight: RowOf,
-    board: RowOf,
+    arrival: TimeOf,
+    departure: TimeOf,
     a: SideRows,
     b: SideRows,
     from: Call,
     to: Call,
 ) -> Change
     requires { ⌜
-        Timed (now zones) (now timetbls) (a .row) alight (from .day)
-        × Timed (now zones) (now timetbls) (b .row) board (to .day)
+        FewMinutes arrival
+        × FewMinutes departure
+        × (from .day < longest)
+        × (to .day < longest)
         × Stored (Rows Stations) (counts .stations) (now stations)
         × Stored (Groups Changes) (counts .changes) (now changes)
         × Stored (Groups Xfootnote) (counts .xfootnote) (now xfootnotes)
@@ -282,23 +298,10 @@ fn weighed(
         → R .xfootnote ≡ rowsIn (Groups Xfootnote) (now (xfootnotes .entry))
         → R .xchanges ≡ rowsIn (Groups Xchanges) (now (xchanges .entry))
         → r
-        ≡ verdictBy R (rowsFound (now (timetbls .entry)) a) (rowsFound (now (timetbls .entry)) b) (stopFound (now (timetbls .entry)) a)
-        (stopFound (now (timetbls .entry)) b) (rowOr (rowWidth (Groups Timezone)) (now (zones .entry)) alight)
-        (rowOr (rowWidth (Groups Timezone)) (now (zones .entry)) board) (a .station) from to)
+        ≡ verdictBy R (rowsFound (now (timetbls .entry)) a) (rowsFound (now (timetbls .entry)) b) arrival departure (a .station) from to)
         ⌝ }
 {
-    let alight_row = a.row;
-    let board_row = b.row;
-    let gap = gap_between(
-        zones,
-        timetbls,
-        alight_row,
-        alight,
-        from.day,
-        board_row,
-        board,
-        to.day,
-    );
+    let gap = gap_of(arrival, from.day, departure, to.day);
     needed_times::by_needed(
         gap,
         stations,
@@ -315,7 +318,7 @@ fn weighed(
     )
 }
 
-// Where no No came before: 15 for either station, then the verdict.
+// Where no No came before: 15 for either time, then the verdict.
 fn judged(
     delivery: &[u64],
     zones: &[u64],
@@ -344,28 +347,36 @@ fn judged(
         → ZoneRows R (now (delivery .entry)) (now (zones .entry)) (now (stations .entry))
         → NeedRows R (now (changes .entry)) (now (xfootnotes .entry)) (now (xchanges .entry))
         → r
-        ≡ judgedOn R (rowsFound (now (timetbls .entry)) a) (rowsFound (now (timetbls .entry)) b) (stopFound (now (timetbls .entry)) a)
-        (stopFound (now (timetbls .entry)) b) (a .station) (b .station) from to)
+        ≡ judgedOn R (rowsFound (now (timetbls .entry)) a) (rowsFound (now (timetbls .entry)) b)
+        (arrivalFrom R (stopFound (now (timetbls .entry)) a) (a .station) from)
+        (departureTo R (stopFound (now (timetbls .entry)) b) (b .station) to) (a .station) from to)
         ⌝ }
 {
-    let alight = period_on(
+    let ToldTime::Told(arrival) = arrival_from(
         delivery,
         zones,
         stations,
+        timetbls,
         places,
         counts,
-        a.station,
-        from.day,
-    );
-    if !zone_times::is_there(zones, alight) {
+        a,
+        from,
+    ) else {
         return Change::ChangeRefused(Reason::NoPeriod);
-    }
-    let board = period_on(delivery, zones, stations, places, counts, b.station, to.day);
-    if !zone_times::is_there(zones, board) {
-        return Change::ChangeRefused(Reason::NoPeriod);
-    }
-    weighed(
+    };
+    let ToldTime::Told(departure) = departure_to(
+        delivery,
         zones,
+        stations,
+        timetbls,
+        places,
+        counts,
+        b,
+        to,
+    ) else {
+        return Change::ChangeRefused(Reason::NoPeriod);
+    };
+    weighed(
         stations,
         timetbls,
         changes,
@@ -373,8 +384,8 @@ fn judged(
         xchanges,
         places,
         counts,
-        alight,
-        board,
+        arrival,
+        departure,
         a,
         b,
         from,

@@ -10,7 +10,7 @@ use Rattle.iff.specs.declared.GroupFile.the-variants.{Timezone, Footnote, Chang
 use Rattle.iff.specs.declared.File.{File}
 use Rattle.iff.specs.declared.File.the-variants.{Delivery, Rows, Groups, Timetbls}
 use Rattle.iff_desk.specs.Sound.{distinct}
-use Rattle.stop_times.specs.Times.{FewHours}
+use Rattle.day_times.specs.Told.{FewHours}
 use Rattle.changing.specs.Agree.{FewDays}
 use Rattle.needed_times.specs.declared.StoreCounts.{StoreCounts}
 

@@ -19,7 +19,7 @@ ghost use Rattle.iff.specs.declared.File.the-variants.{Delivery, Rows, Groups, 
 ghost use Rattle.iff_desk.specs.Running.{runningIn, runningDay};
 ghost use Rattle.iff_desk.specs.Stops.{stopTimeIn, stopTime};
 ghost use Rattle.iff_desk.specs.Changing.{precheck, coreChange, callOf, changeAfter, change as changeTo};
-ghost use Rattle.stop_times.specs.Times.{FewHours};
+ghost use Rattle.day_times.specs.Told.{FewHours};
 ghost use Rattle.changing.specs.Agree.{RowsOf};
 ghost use Rattle.changing.specs.Sides.{sideOf};
 ghost use Rattle.desk.specs.Sure.{Once, Leant, CountedRows};

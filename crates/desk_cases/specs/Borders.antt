@@ -1,4 +1,4 @@
--- Borders that stand by themselves: periods that leave days out, the service day's period, one stop for first and last, attributes of any code.
+-- Borders that stand by themselves: periods that leave days out, times past midnight, one stop for first and last, attributes of any code.
 use Prim.{tt}
 use Prim.Native.Nat.{ℕ}
 use mathlib.Core.Path.{refl}
@@ -87,20 +87,20 @@ pub noPeriodInChange-hold : Hold noPeriodInChange
 unfolding opened
 noPeriodInChange-hold = (refl, (refl, (refl, (refl, tt))))
 
--- "by the period that holds the service day", also of a time past midnight: 05011615 is the last day of +01
-abbrev pub serviceDay : List Claim
-serviceDay =
-    claim "2600" (stopTime stored 7 3 5011615) (times AAA (time (pos 1560) (pos 1500)) NoTime) ∷
-    claim "2430 and 2510" (stopTime stored 7 2 5011615) (times CCC (time (pos 1470) (pos 1410)) (time (pos 1510) (pos 1450))) ∷
-    -- 2600 of +01 to 0330 of +02
-    claim "a change" (change stored (side 7 3 5011615) (side 7 1 6011615)) (NoShort (pos 30) FromXchanges 99) ∷
+-- by the period that holds the day of the time itself (W2), here of times past midnight: 05011615 is the last day of +01
+abbrev pub ownDay : List Claim
+ownDay =
+    claim "2600" (stopTime stored 7 3 5011615) (times AAA (time (pos 1560) (pos 1440)) NoTime) ∷
+    claim "2430 and 2510" (stopTime stored 7 2 5011615) (times CCC (time (pos 1470) (pos 1350)) (time (pos 1510) (pos 1390))) ∷
+    -- 2600 of +02 to 0330 of +02
+    claim "a change" (change stored (side 7 3 5011615) (side 7 1 6011615)) (NoShort (pos 90) FromXchanges 99) ∷
     -- the day after the service day lies in no period
-    claim "2600 before a day in no period" (stopTime parted 7 3 5011615) (times AAA (time (pos 1560) (pos 1500)) NoTime) ∷
+    claim "2600 before a day in no period" (stopTime parted 7 3 5011615) (StopTimeRefused NoPeriod) ∷
     []
 
-pub serviceDay-hold : Hold serviceDay
+pub ownDay-hold : Hold ownDay
 unfolding opened
-serviceDay-hold = (refl, (refl, (refl, (refl, tt))))
+ownDay-hold = (refl, (refl, (refl, (refl, tt))))
 
 -- "For `*`: 1 ≤ first ≤ last ≤ n.": first may be last
 abbrev pub oneStop : List Claim

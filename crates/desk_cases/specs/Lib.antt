@@ -8,3 +8,4 @@ pub mod PartCases
 pub mod AmendCases
 pub mod AnswerCases
 pub mod Borders
+pub mod ClockCases

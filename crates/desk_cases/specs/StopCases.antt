@@ -32,7 +32,7 @@ stopTimes =
     claim "a stop between" (stopTime stored 7 2 1011615) (times CCC (time (pos 1470) (pos 1410)) (time (pos 1510) (pos 1450))) ∷
     -- `<` has no departure
     claim "the last stop" (stopTime stored 7 3 1011615) (times AAA (time (pos 1560) (pos 1500)) NoTime) ∷
-    -- "by the period that holds the service day": +01 up to 05011615, +02 from 06011615 (times past midnight: Borders)
+    -- by the period that holds the day: +01 up to 05011615, +02 from 06011615 (times past midnight: Borders, ClockCases)
     claim "the last day of a period" (stopTime stored 7 1 5011615) (times AAA NoTime (time (pos 210) (pos 150))) ∷
     claim "the first day of the next" (stopTime stored 7 1 6011615) (times AAA NoTime (time (pos 210) (pos 90))) ∷
     -- `.` gives both; zone -01

@@ -19,12 +19,13 @@ use Rattle.iff.specs.declared.Test.the-variants.{Passes, Fails}
 use Rattle.iff_rules.specs.References.{anyCompany, anyMode}
 use Rattle.iff_rules.specs.Legs.{stopsOf}
 use Rattle.iff_desk.specs.Sound.{sound, rowsOfTables}
-use Rattle.iff_desk.specs.Store.{serviceRows, groupOf, stopAt, recordOn, stationRow, dayOn, marked, vectorOf, periodOn, isThere}
+use Rattle.iff_desk.specs.Store.{serviceRows, groupOf, stopAt, recordOn, stationRow, dayOn, marked, vectorOf}
 use Rattle.iff_desk.specs.Running.{asked, runsOn, isLeg}
-use Rattle.iff_desk.specs.Stops.{mayAlight, mayBoard, timesBy}
+use Rattle.iff_desk.specs.Stops.{mayAlight, mayBoard, arrivalOn, departureOn}
 use Rattle.iff_desk.specs.declared.TimeOf.{TimeOf}
 use Rattle.iff_desk.specs.declared.TimeOf.the-variants.{At, NoTime}
-use Rattle.iff_desk.specs.declared.StopTimes.{StopTimes}
+use Rattle.iff_desk.specs.declared.ToldTime.{ToldTime}
+use Rattle.iff_desk.specs.declared.ToldTime.the-variants.{Told, Untold}
 use Rattle.iff_desk.specs.declared.Early.{Early}
 use Rattle.iff_desk.specs.declared.Early.the-variants.{SameService, FromRests, ToRests, StationsDiffer, NobodyAlights, NobodyBoards}
 use Rattle.iff_desk.specs.declared.Source.{Source}
@@ -140,14 +141,26 @@ gapBetween (At la ra) da (At lb rb) db = gapOf ra da rb db
 gapBetween (At la ra) da NoTime db = pos 0
 gapBetween NoTime da t db = pos 0
 
+-- "Then 15.", of A's arrival and of B's departure
+abbrev pub isTold : ToldTime → Bool
+isTold (Told t) = true
+isTold Untold = false
+
+abbrev pub timeTold : ToldTime → TimeOf
+timeTold (Told t) = t
+timeTold Untold = NoTime
+
+abbrev pub toldTest : ToldTime → ToldTime → Test
+toldTest a d = firstTest (unless (isTold a) NoPeriod ∷ unless (isTold d) NoPeriod ∷ [])
+
 abbrev pub afterHurdles : Hurdle → Test → Change → Change
 afterHurdles (stop e) t c = NoBefore e
 afterHurdles clear (Fails r) c = ChangeRefused r
 afterHurdles clear Passes c = c
 
--- the core: services that are there, stops and days that are right, on sound tables
-unfoldable pub coreChange : PerFile (List Row) → Call → Call → Change
-coreChange R A B =
+-- the core: services that are there, stops and days that are right, on sound tables; by A's arrival and B's departure
+unfoldable pub coreBy : PerFile (List Row) → Call → Call → ToldTime → ToldTime → Change
+coreBy R A B arrival departure =
     let aRows = serviceRows R (A .service) in
     let bRows = serviceRows R (B .service) in
     let k = A .stop - 1 in
@@ -155,8 +168,6 @@ coreChange R A B =
     let a = stopAt aRows (A .stop) in
     let b = stopAt bRows (B .stop) in
     let station = named a in
-    let pa = periodOn R (named a) (A .day) in
-    let pb = periodOn R (named b) (B .day) in
     afterHurdles
     (firstHurdle
     (stopIf (eqb (A .service) (B .service) && eqb (A .day) (B .day)) SameService
@@ -166,13 +177,18 @@ coreChange R A B =
     ∷ stopIf (not (mayAlight R aRows (A .stop) (A .day))) NobodyAlights
     ∷ stopIf (not (mayBoard R bRows (B .stop) (B .day))) NobodyBoards
     ∷ []))
-    (firstTest (unless (isThere pa) NoPeriod ∷ unless (isThere pb) NoPeriod ∷ []))
+    (toldTest arrival departure)
     (core
-    (gapBetween (timesBy pa a .arrival) (A .day) (timesBy pb b .departure) (B .day))
+    (gapBetween (timeTold arrival) (A .day) (timeTold departure) (B .day))
     (pairAt R station (A .service) (B .service))
     (changeFlag (stationRow R station))
     (bestAt R station (ridingOn aRows k) (ridingOn bRows m) (A .day))
     (changeTime (stationRow R station)))
+
+unfoldable pub coreChange : PerFile (List Row) → Call → Call → Change
+coreChange R A B =
+    coreBy R A B (arrivalOn R (stopAt (serviceRows R (A .service)) (A .stop)) (A .day))
+    (departureOn R (stopAt (serviceRows R (B .service)) (B .stop)) (B .day))
 
 -- "12, 13, 14, for A then B each"
 unfoldable pub precheck : PerFile (List Row) → Side → Side → Test

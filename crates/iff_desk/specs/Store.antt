@@ -89,9 +89,9 @@ holds day r = within (dayOf (periodFirst r)) (Day day) (dayOf (periodLast r))
 unfoldable pub periodOf : List Row → ℕ → ℕ → Row
 periodOf rs zone day = firstOf (kept (holds day) (drop 1 (groupOf zone rs)))
 
--- of a station's own zone, on a day of validity
-abbrev pub periodOn : PerFile (List Row) → ℕ → ℕ → Row
-periodOn R station d = periodOf (R .timezone) (stationZone (stationRow R station)) (numberOn R d)
+-- of a station's own zone
+abbrev pub periodAt : PerFile (List Row) → ℕ → ℕ → Row
+periodAt R station day = periodOf (R .timezone) (stationZone (stationRow R station)) day
 
 abbrev pub isThere : Row → Bool
 isThere r = not (eqb (tag r) 0)

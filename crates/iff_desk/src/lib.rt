@@ -16,6 +16,12 @@ pub enum TimeOf {
     NoTime,
 }
 
+// A time by the period that holds its own day: told, or not, where the zone has no period on that day.
+pub enum ToldTime {
+    Told(TimeOf),
+    Untold,
+}
+
 pub struct StopTimes {
     pub station: u64,
     pub arrival: TimeOf,

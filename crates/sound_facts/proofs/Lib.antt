@@ -1,2 +1,3 @@
 pub mod RowFacts
+pub mod PeriodFacts
 pub mod SoundFacts

@@ -189,6 +189,29 @@ stands-on rs r = after-last (λ s r. groupMoves s) Opening rs r
 abbrev Behind : Context → GroupFile → (Row → Type 0) → Type 0
 Behind c f Q = (s : GroupStand) (r : Row) → mayFollow f (groupMoves s) (tag r) ≡ true → shaped (fieldsOf (c .form) (Groups f) (tag r)) r ≡ true → Q r
 
+-- what holds of the rows behind the `#` of every sound group holds of those of the group of any key
+module _ (c : Context) (f : GroupFile) (P : List Row → Type 0) (none : P []) (each : (g : Group Row) → soundGroup c f g ≡ true → P (g .rest)) where
+  groups-key : (key : ℕ) (gs : List (Group Row)) → all (soundGroup c f) gs ≡ true
+      → P (drop 1 (rowsOfGroups (kept (λ g. eqb (named (g .top)) key) gs)))
+  unfolding all kept
+  groups-key key [] e = none
+  groups-key key (g ∷ gs) e =
+      let b = both _ _ e in
+      go (eqb (named (g .top)) key) (each g (b .0)) (groups-key key gs (b .1))
+    where
+      go : (b : Bool) → P (g .rest) → P (drop 1 (rowsOfGroups (kept (λ g. eqb (named (g .top)) key) gs)))
+          → P (drop 1 (rowsOfGroups (cond b (g ∷ kept (λ g. eqb (named (g .top)) key) gs) (kept (λ g. eqb (named (g .top)) key) gs))))
+      go true h u = h
+      go false h u = u
+
+  pub key-group : (d : Row) (rs : List Row) → soundRows c d (Groups f) rs ≡ true → (key : ℕ) → P (drop 1 (groupOf key rs))
+  unfolding groupOf groups kept soundGroups
+  key-group d [] e key = none
+  key-group d (r ∷ rs) e key =
+      let l = later-rows c d (Groups f) r rs e in
+      rw (later-groups c d (Groups f) r rs e)
+      (groups-key key (groups isHashRow rs) (both (empty (front isHashRow rs)) (all (soundGroup c f) (groups isHashRow rs)) l .1))
+
 module _ (c : Context) (f : GroupFile) (Q : Row → Type 0) (q : Behind c f Q) where
   behind-each : (earlier : List Row) (x : Row) (rs : List Row) → passes (soundGroupRow c f) followedBy (followedBy earlier x) rs ≡ true → Each Q rs
   unfolding passes soundGroupRow
@@ -204,33 +227,15 @@ module _ (c : Context) (f : GroupFile) (Q : Row → Type 0) (q : Behind c f Q) w
   behind-first top rs e =
       behind-each [] top rs (both (soundGroupRow c f [] top) (passes (soundGroupRow c f) followedBy (followedBy [] top) rs) e .1)
 
-  group-each : (g : Group Row) → soundGroup c f g ≡ true → Each Q (g .rest)
+  pub group-each : (g : Group Row) → soundGroup c f g ≡ true → Each Q (g .rest)
   unfolding soundGroup
   group-each g e =
       behind-first (g .top) (g .rest)
       (both (passes (soundGroupRow c f) followedBy [] (members g)) (mayEnd f (groupStand (members g))) e .0)
 
-  groups-each : (key : ℕ) (gs : List (Group Row)) → all (soundGroup c f) gs ≡ true
-      → Each Q (drop 1 (rowsOfGroups (kept (λ g. eqb (named (g .top)) key) gs)))
-  unfolding all kept
-  groups-each key [] e = tt
-  groups-each key (g ∷ gs) e =
-      let b = both _ _ e in
-      go (eqb (named (g .top)) key) (group-each g (b .0)) (groups-each key gs (b .1))
-    where
-      go : (b : Bool) → Each Q (g .rest) → Each Q (drop 1 (rowsOfGroups (kept (λ g. eqb (named (g .top)) key) gs)))
-          → Each Q (drop 1 (rowsOfGroups (cond b (g ∷ kept (λ g. eqb (named (g .top)) key) gs) (kept (λ g. eqb (named (g .top)) key) gs))))
-      go true h u = h
-      go false h u = u
-
   -- of the group of any key
   pub key-each : (d : Row) (rs : List Row) → soundRows c d (Groups f) rs ≡ true → (key : ℕ) → Each Q (drop 1 (groupOf key rs))
-  unfolding groupOf groups kept soundGroups
-  key-each d [] e key = tt
-  key-each d (r ∷ rs) e key =
-      let l = later-rows c d (Groups f) r rs e in
-      rw (later-groups c d (Groups f) r rs e)
-      (groups-each key (groups isHashRow rs) (both (empty (front isHashRow rs)) (all (soundGroup c f) (groups isHashRow rs)) l .1))
+  key-each d rs e key = key-group c f (Each Q) tt group-each d rs e key
 
 -- a period's row, and an exception's, opens no group
 no-hash : (x : ℕ) → isPeriod x ≡ true → eqb x hash ≡ false
@@ -241,7 +246,7 @@ no-hash x e = go (eqb x plus) (eqb x dash) refl refl e
     go false true p q e = rw (eqb-true x dash q)
     go false false p q e = absurd (true≢false (sym e))
 
-period-follows : (s : GroupStand) (x : ℕ) → mayFollow Timezone (groupMoves s) x ≡ true → eqb x hash ≡ false
+pub period-follows : (s : GroupStand) (x : ℕ) → mayFollow Timezone (groupMoves s) x ≡ true → eqb x hash ≡ false
 unfolding mayFollow
 period-follows Opening x e = no-hash x e
 period-follows Opened x e = no-hash x e

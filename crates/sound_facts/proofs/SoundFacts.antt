@@ -18,8 +18,9 @@ use Rattle.iff.specs.declared.File.the-variants.{Delivery, Rows, Groups, Timetb
 use Rattle.iff_rules.specs.Rows.{contextOf, firstOf}
 use Rattle.iff_laws.specs.TruthLaws.{both, says-all}
 use Rattle.iff_desk.specs.Sound.{rowsOfTables, rowSize, firstSize, soundRows, soundTable, sound, distinct}
-use Rattle.iff_desk.specs.Store.{groupOf, stationRow, periodOf}
+use Rattle.iff_desk.specs.Store.{noRow, groupOf, stationRow, holds, periodOf, isThere}
 use Rattle.tables.proofs.Each.{Each}
+use Rattle.sound_facts.proofs.PeriodFacts.{period-alone, period-there}
 use Rattle.sound_facts.proofs.RowFacts.{one-of, keys-once, rows-short, days-few, station-times, period-few, exceptions-few}
 
 -- the files, by their place in the order of reading
@@ -88,6 +89,16 @@ module _ (T : PerFile (List ℕ)) (s : sound T ≡ true) where
   -- hours of a zone's period, 2-3
   pub few-hours : (zone day : ℕ) → hours (periodOf (rowsIn (Groups Timezone) (T .timezone)) zone day) < 100
   few-hours zone day = period-few _ _ _ (rows-sound (Groups Timezone)) zone day
+
+  -- "Periods of one zone do not overlap.": the one that holds a day is the zone's period on it
+  pub one-period : (zone day i : ℕ) → i < length (drop 1 (groupOf zone (rowsIn (Groups Timezone) (T .timezone))))
+      → holds day (getD (drop 1 (groupOf zone (rowsIn (Groups Timezone) (T .timezone)))) i noRow) ≡ true
+      → periodOf (rowsIn (Groups Timezone) (T .timezone)) zone day ≡ getD (drop 1 (groupOf zone (rowsIn (Groups Timezone) (T .timezone)))) i noRow
+  one-period zone day i h e = period-alone _ _ _ (rows-sound (Groups Timezone)) zone day i h e
+
+  pub period-is-there : (zone i : ℕ) → i < length (drop 1 (groupOf zone (rowsIn (Groups Timezone) (T .timezone))))
+      → isThere (getD (drop 1 (groupOf zone (rowsIn (Groups Timezone) (T .timezone)))) i noRow) ≡ true
+  period-is-there zone i h = period-there _ _ _ (rows-sound (Groups Timezone)) zone i h
 
   -- a station's change time, 11-12
   pub few-change-time : (key : ℕ) → changeTime (stationRow (rowsOfTables T) key) < 100

@@ -1,5 +1,5 @@
--- The day of a question, and its answer by the period of that day. Assumes nothing.
-use Prim.Native.Nat.{ℕ, _+_, _<_}
+-- The day of a question, and its answer by the times of that day. Assumes nothing.
+use Prim.Native.Nat.{ℕ, _+_}
 use mathlib.Core.Path.{_≡_, refl, ap, sym, _∙_}
 use mathlib.Core.List.{List, [], _∷_}
 use mathlib.Core.Bool.{Bool, true, false, not, true≢false}
@@ -7,29 +7,26 @@ use native.Mathlib.Omega.{arith}
 use borrow.Author.Tests.{leb-true}
 use lib.Dec.{leb}
 use Rattle.iff.specs.Days.{dayOf, within, since, inPeriod, dayIn}
-use Rattle.iff.specs.Files.{PerFile, eleven}
+use Rattle.iff.specs.Files.{PerFile}
 use Rattle.iff.specs.Refusals.{firstTest, unless, passing}
-use Rattle.iff.specs.Tables.{Row, rowWidth, rowsIn}
-use Rattle.iff.specs.Words.{named, hours, stationZone}
-use Rattle.iff.specs.declared.RowFile.the-variants.{Stations}
-use Rattle.iff.specs.declared.GroupFile.the-variants.{Timezone}
-use Rattle.iff.specs.declared.File.the-variants.{Rows, Groups}
+use Rattle.iff.specs.Tables.{Row}
+use Rattle.iff.specs.Words.{named}
 use Rattle.iff.specs.declared.Reason.{Reason}
 use Rattle.iff.specs.declared.Reason.the-variants.{NoService, NoStop, NoDate, NoPeriod}
 use Rattle.iff.specs.declared.Test.{Test}
 use Rattle.iff.specs.declared.Test.the-variants.{Passes, Fails}
-use Rattle.iff.specs.declared.RowOf.{RowOf}
 use Rattle.iff.specs.declared.DayOf.{DayOf}
 use Rattle.iff.specs.declared.DayOf.the-variants.{Day, NotADay}
 use Rattle.iff_laws.specs.TruthLaws.{both}
-use Rattle.iff_desk.specs.Store.{serviceRows, isEmpty, stopAt, stationRow, firstDay, lastDay, isValid, dayOn, dayNumber, numberOn, periodOf, isThere}
+use Rattle.iff_desk.specs.Store.{serviceRows, isEmpty, stopAt, firstDay, lastDay, isValid, dayOn, dayNumber, numberOn}
 use Rattle.iff_desk.specs.Running.{asked}
-use Rattle.iff_desk.specs.Stops.{timesBy, isStopNumber, stopTimeIn}
-use Rattle.iff_desk.specs.declared.StopTimes.{StopTimes}
+use Rattle.iff_desk.specs.Stops.{arrivalOf, departureOf, toldOn, isStopNumber, stopTimeIn}
+use Rattle.iff_desk.specs.declared.TimeOf.{TimeOf}
+use Rattle.iff_desk.specs.declared.ToldTime.{ToldTime}
+use Rattle.iff_desk.specs.declared.ToldTime.the-variants.{Told, Untold}
 use Rattle.iff_desk.specs.declared.StopTime.{StopTime}
 use Rattle.iff_desk.specs.declared.StopTime.the-variants.{Times, StopTimeRefused}
-use Rattle.store.specs.Found.{rowOr, Stands, RowFor}
-use Rattle.stop_times.specs.Times.{FewHours, timesThere}
+use Rattle.stop_times.specs.Times.{timesThere}
 
 -- A DAY OF VALIDITY, counted from the first day and by its number
 day-counted : (first date last : DayOf) → within first date last ≡ true → dayNumber first + since first date ≡ dayNumber date
@@ -67,23 +64,18 @@ module _ (R : PerFile (List Row)) (s i date : ℕ) (rs : List Row) (e : serviceR
       let v = asked-valid R s right date (sym g ∙ q) in
       h ∙ rw (e, ← f, ← q, g, k, number-on R date v)
 
--- the period that was found has few hours
-pub period-few : (zones stations : List ℕ) (station number : ℕ) (o : RowOf) → FewHours zones
-    → ((R : PerFile (List Row)) → R .timezone ≡ rowsIn (Groups Timezone) zones → R .stations ≡ rowsIn (Rows Stations) stations
-    → RowFor (rowWidth (Groups Timezone)) zones (periodOf (R .timezone) (stationZone (stationRow R station)) number) o)
-    → Stands (rowWidth (Groups Timezone)) zones o × (hours (rowOr (rowWidth (Groups Timezone)) zones o) < 100)
-period-few zones stations station number o few p =
-    let R = eleven [] [] [] [] (rowsIn (Groups Timezone) zones) (rowsIn (Rows Stations) stations) [] [] [] [] [] in
-    let h = p R refl refl in
-    (h .stands, rw (← h .is) (few (stationZone (stationRow R station)) number))
-
--- the answer by that period
-module _ (R : PerFile (List Row)) (r : Row) (number : ℕ) (w : ℕ) (zones : List ℕ) (o : RowOf) (station day : ℕ) (n : station ≡ named r)
-    (d : day ≡ number) (h : RowFor w zones (periodOf (R .timezone) (stationZone (stationRow R station)) day) o) where
-  pub no-period : isThere (rowOr w zones o) ≡ false → StopTimeRefused NoPeriod ≡ timesThere R r number
+-- the times, each told by itself
+module _ (R : PerFile (List Row)) (r : Row) (number station day : ℕ) (n : station ≡ named r) (d : day ≡ number) (a u : ToldTime)
+    (p : a ≡ toldOn R station day (arrivalOf r)) (q : u ≡ toldOn R station day (departureOf r)) where
+  pub no-arrival : a ≡ Untold → StopTimeRefused NoPeriod ≡ timesThere R r number
   unfolding timesThere
-  no-period e = rw (← n, ← d, h .is, e)
+  no-arrival e = rw (← n, ← d, ← p, e)
 
-  pub by-period : isThere (rowOr w zones o) ≡ true → (t : StopTimes) → t ≡ timesBy (rowOr w zones o) r → Times t ≡ timesThere R r number
+  pub no-departure : (x : TimeOf) → a ≡ Told x → u ≡ Untold → StopTimeRefused NoPeriod ≡ timesThere R r number
   unfolding timesThere
-  by-period e t q = rw (← n, ← d, h .is, e, q)
+  no-departure x e f = rw (← n, ← d, ← p, ← q, e, f)
+
+  pub both-told : (x y : TimeOf) → a ≡ Told x → u ≡ Told y
+      → Times (record { station = station; arrival = x; departure = y }) ≡ timesThere R r number
+  unfolding timesThere
+  both-told x y e f = rw (← n, ← d, ← p, ← q, e, f)

@@ -6,9 +6,12 @@ use iff::RowOf;
 use iff::Test;
 use iff::words;
 use iff_desk::StopTime;
+use iff_desk::StopTimes;
+use iff_desk::ToldTime;
 use store::Part;
 ghost use mathlib.Core.Path.{_≡_};
 ghost use mathlib.Core.List.{List};
+ghost use Prim.Native.Nat.{_<_};
 ghost use Rattle.iff.specs.Days.{dayOf};
 ghost use Rattle.iff.specs.Files.{PerFile};
 ghost use Rattle.iff.specs.Tables.{Row, rowWidth, rowsIn};
@@ -18,11 +21,12 @@ ghost use Rattle.iff.specs.declared.File.the-variants.{Delivery, Rows, Groups, 
 ghost use Rattle.iff_desk.specs.Store.{dayNumber};
 ghost use Rattle.iff_desk.specs.Stops.{isStopNumber, stopTimeIn};
 ghost use Rattle.store.specs.Found.{Stored, rowsOf, Inside, rowOr, Stands};
-ghost use Rattle.stop_times.specs.Times.{FewHours, timesThere};
+ghost use Rattle.day_times.specs.Told.{FewHours};
+ghost use Rattle.stop_times.specs.Times.{timesThere};
 
 // A date as a day's number, 0 for what is no date.
 fn day_number(date: u64) -> u64
-    ensures { λ r. ⌜ r ≡ dayNumber (dayOf date) ⌝ }
+    ensures { λ r. ⌜ (r ≡ dayNumber (dayOf date)) × (r < 4000000) ⌝ }
 {
     match calendar::day_of(date) {
         DayOf::Day(day) => day,
@@ -43,7 +47,7 @@ pub fn is_stop_number(timetbls: &[u64], part: Part, number: u64) -> bool
     number <= service_rows::count_stops(timetbls, part)
 }
 
-// The times of a stop's row on a date, by the period of its station's own zone: 15 where none holds the day.
+// The times of a stop's row on a date, each by the period of its own day: 15 where none holds it.
 fn times_there(
     timetbls: &[u64],
     row: RowOf,
@@ -70,7 +74,9 @@ fn times_there(
 {
     let station = store::word_of(timetbls, tables::BLOCK_WIDTH, row, words::NAMED);
     let number = day_number(date);
-    let period = zone_times::period_by_number(
+    let ToldTime::Told(arrival) = day_times::arrival_on(
+        timetbls,
+        row,
         zones,
         zones_used,
         zone_places,
@@ -79,11 +85,28 @@ fn times_there(
         station_places,
         station,
         number,
-    );
-    if !zone_times::is_there(zones, period) {
+    ) else {
         return StopTime::StopTimeRefused(Reason::NoPeriod);
-    }
-    StopTime::Times(zone_times::times_by(timetbls, row, zones, period))
+    };
+    let ToldTime::Told(departure) = day_times::departure_on(
+        timetbls,
+        row,
+        zones,
+        zones_used,
+        zone_places,
+        stations,
+        stations_used,
+        station_places,
+        station,
+        number,
+    ) else {
+        return StopTime::StopTimeRefused(Reason::NoPeriod);
+    };
+    StopTime::Times(StopTimes {
+        station: station,
+        arrival: arrival,
+        departure: departure,
+    })
 }
 
 // Station and times of a stop of a service on a date. It is not asked whether the service runs.

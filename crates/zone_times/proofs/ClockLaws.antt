@@ -1,44 +1,25 @@
--- Times by a period, and the period of a station's zone. Assumes nothing.
-use Prim.Native.Nat.{ℕ, _+_, _*_, _/_, _%_, _<_}
-use mathlib.Core.Path.{_≡_, refl, ap}
-use mathlib.Core.List.{List}
-use mathlib.Core.Bool.{Bool, true, false, _&&_, cond}
+-- A time by a period. Assumes nothing.
+use Prim.Native.Nat.{ℕ, _<_}
+use mathlib.Core.Path.{_≡_, refl, ap, sym, _∙_}
+use mathlib.Core.Bool.{Bool, true, false, not}
 use native.Mathlib.Omega.{arith}
-use borrow.Author.Tests.{ltb-true}
-use lib.Dec.{eqb, ltb}
+use lib.Dec.{eqb}
 use lib.IntN.{ℤ, pos}
 use lib.Signed.{mag}
 use Rattle.iff.specs.Bytes.{dash}
-use Rattle.iff.specs.Files.{PerFile}
-use Rattle.iff.specs.Times.{isTime, minutesOf, referenceOf}
-use Rattle.iff.specs.Tables.{Row, tag, rowsIn}
-use Rattle.iff.specs.Words.{named, hours, stationZone}
-use Rattle.iff.specs.declared.GroupFile.the-variants.{Timezone}
-use Rattle.iff.specs.declared.File.the-variants.{Groups}
-use Rattle.iff.specs.declared.RowOf.{RowOf}
+use Rattle.iff.specs.Times.{minutesOf, referenceOf}
+use Rattle.iff.specs.Tables.{Row, tag}
+use Rattle.iff.specs.Words.{hours}
 use Rattle.iff.specs.declared.MinutesOf.{MinutesOf}
 use Rattle.iff.specs.declared.MinutesOf.the-variants.{Minutes, NoMinutes}
 use Rattle.iff.specs.declared.LocalMinutes.{LocalMinutes}
 use Rattle.iff.specs.declared.ReferenceMinutes.{ReferenceMinutes}
-use Rattle.iff_desk.specs.Store.{stationRow, periodOf}
-use Rattle.iff_desk.specs.Stops.{arrivalOf, departureOf, timeBy, timesBy}
+use Rattle.iff_desk.specs.Stops.{timeBy, toldIf}
 use Rattle.iff_desk.specs.declared.TimeOf.{TimeOf}
 use Rattle.iff_desk.specs.declared.TimeOf.the-variants.{At, NoTime}
-use Rattle.store.specs.Found.{rowOr, RowFor}
-use Rattle.zone_times.specs.Clocks.{timeAt, ClockTime, TimesFor}
-
--- a time's minutes are few
-pub few-minutes : (time m : ℕ) → minutesOf time ≡ Minutes m → m < 6000
-unfolding minutesOf isTime
-few-minutes time m e = go (ltb time 10000) (ltb (time % 100) 60) refl refl e
-  where
-    go : (a b : Bool) → ltb time 10000 ≡ a → ltb (time % 100) 60 ≡ b
-        → cond (a && b) (Minutes (time / 100 * 60 + time % 100)) NoMinutes ≡ Minutes m → m < 6000
-    go true true p q e =
-        let z : time / 100 * 60 + time % 100 ≡ m = cc in
-        omega (arith, ltb-true time 10000 p, ltb-true (time % 100) 60 q)
-    go true false p q e = let z : _≡_ {A = ℕ} 0 1 = cc in absurd (omega arith)
-    go false b p q e = let z : _≡_ {A = ℕ} 0 1 = cc in absurd (omega arith)
+use Rattle.iff_desk.specs.declared.ToldTime.{ToldTime}
+use Rattle.iff_desk.specs.declared.ToldTime.the-variants.{Told}
+use Rattle.zone_times.specs.Clocks.{timeAt, ClockTime, ToldFor}
 
 -- no time is on no clock
 pub no-clock : (time : ℕ) (earlier : Bool) (hours : ℕ) → minutesOf time ≡ NoMinutes → ClockTime time earlier hours NoTime
@@ -62,20 +43,16 @@ time-by : (p : Row) (m : MinutesOf) → timeBy p m ≡ timeAt (eqb (tag p) dash)
 time-by p (Minutes m) = refl
 time-by p NoMinutes = refl
 
-pub times-for : (p r : Row) (earlier : Bool) (h station arrival departure : ℕ) (a d : TimeOf) → earlier ≡ eqb (tag p) dash → h ≡ hours p
-    → station ≡ named r → arrival ≡ arrivalOf r → departure ≡ departureOf r → ClockTime arrival earlier h a → ClockTime departure earlier h d
-    → TimesFor p r (record { station = station; arrival = a; departure = d })
-unfolding timesBy
-times-for p r earlier h station arrival departure a d e f s u v x y =
-    record {
-      is = rw (s, x .is, y .is, u, v, e, f, time-by p (minutesOf (arrivalOf r)), time-by p (minutesOf (departureOf r)));
-      arrival = x .few;
-      departure = y .few;
-    }
+-- what is told is the time that was asked for
+told-is : (there : Bool) (x y : TimeOf) → toldIf there x ≡ Told y → x ≡ y
+told-is true (At l r) y e = cc
+told-is false (At l r) y e = let z : _≡_ {A = ℕ} 0 1 = cc in absurd (omega arith)
+told-is there NoTime y e = cc
 
--- the zone by the row of the station
-pub zone-of : (R : PerFile (List Row)) (station number w : ℕ) (zones : List ℕ) (v : ℕ) (stations : List ℕ) (o : RowOf)
-    → RowFor v stations (stationRow R station) o → (zone : ℕ) → zone ≡ stationZone (rowOr v stations o)
-    → R .timezone ≡ rowsIn (Groups Timezone) zones → (p : RowOf) → RowFor w zones (periodOf (rowsIn (Groups Timezone) zones) zone number) p
-    → RowFor w zones (periodOf (R .timezone) (stationZone (stationRow R station)) number) p
-zone-of R station number w zones v stations o h zone e z p f = rw (h .is, ← e, z) f
+pub told-for : (p : Row) (time w h : ℕ) (x : TimeOf) (t : ToldTime) → w ≡ tag p → h ≡ hours p → ClockTime time (eqb w dash) h x
+    → t ≡ toldIf (not (eqb w 0)) x → ToldFor p time t
+told-for p time w h x t e f c q =
+    record {
+      is = rw (q, c .is, e, f, time-by p (minutesOf time));
+      few = λ y k. rw (← told-is (not (eqb w 0)) x y (sym q ∙ k)) (c .few);
+    }

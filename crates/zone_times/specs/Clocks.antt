@@ -1,4 +1,4 @@
--- A stop's times by a period, with the range that the gap between two of them asks for.
+-- A time by a period, with the range that the gap between two of them asks for.
 use Prim.Native.Nat.{ℕ, _<_}
 use mathlib.Core.Path.{_≡_}
 use mathlib.Core.Bool.{Bool}
@@ -10,10 +10,11 @@ use Rattle.iff.specs.declared.MinutesOf.{MinutesOf}
 use Rattle.iff.specs.declared.MinutesOf.the-variants.{Minutes, NoMinutes}
 use Rattle.iff.specs.declared.LocalMinutes.{LocalMinutes}
 use Rattle.iff.specs.declared.ReferenceMinutes.{ReferenceMinutes}
-use Rattle.iff_desk.specs.Stops.{timesBy}
+use Rattle.iff_desk.specs.Stops.{toldBy}
 use Rattle.iff_desk.specs.declared.TimeOf.{TimeOf}
 use Rattle.iff_desk.specs.declared.TimeOf.the-variants.{At, NoTime}
-use Rattle.iff_desk.specs.declared.StopTimes.{StopTimes}
+use Rattle.iff_desk.specs.declared.ToldTime.{ToldTime}
+use Rattle.iff_desk.specs.declared.ToldTime.the-variants.{Told}
 
 -- reference minutes are few
 pub record FewMinutes (t : TimeOf) : Type 0 where
@@ -28,7 +29,7 @@ pub record ClockTime (time : ℕ) (earlier : Bool) (hours : ℕ) (t : TimeOf) : 
   pub is : t ≡ timeAt earlier hours (minutesOf time)
   pub few : FewMinutes t
 
-pub record TimesFor (p r : Row) (s : StopTimes) : Type 0 where
-  pub is : s ≡ timesBy p r
-  pub arrival : FewMinutes (s .arrival)
-  pub departure : FewMinutes (s .departure)
+-- by a period, where there is one
+pub record ToldFor (p : Row) (time : ℕ) (t : ToldTime) : Type 0 where
+  pub is : t ≡ toldBy p (minutesOf time)
+  pub few : (x : TimeOf) → t ≡ Told x → FewMinutes x

@@ -1,5 +1,6 @@
 //! One question through both programs, with answers in one form.
 
+use deliveries::clocks::CameTo;
 use deliveries::{questions, Question};
 use proved::{Change, LocalMinutes, Reason, ReferenceMinutes, Running, Source, StopTimes, Time, Verdict};
 use second::sound::Unsound;
@@ -188,6 +189,16 @@ pub fn outcome(question: &Question, answered: &Answered) -> String {
         Ok(Answer::Part { of: Text::Block, .. }) => "of the block".into(),
     };
     format!("{asked}: {came_to}")
+}
+
+/// What an answer came to, as far as clocks are concerned.
+pub fn came_to(answered: &Answered) -> Option<CameTo> {
+    match answered {
+        Ok(Answer::StopTimes(_)) => Some(CameTo::Times),
+        Ok(Answer::Change(change)) => change.gap.map(|_| CameTo::Times),
+        Err(15) => Some(CameTo::NoPeriod),
+        _ => None,
+    }
 }
 
 fn calls(times: &StopTimes) -> &'static str {

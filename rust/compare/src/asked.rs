@@ -4,10 +4,11 @@
 use std::io;
 use std::ops::Range;
 
-use compare::answers::{outcome, soundness, Answer, Answered, Examined, Lent};
+use compare::answers::{came_to, outcome, soundness, Answer, Answered, Examined, Lent};
 use compare::{by_second, junk, lengths_of, with_spare_words, Lengths, Tables};
+use deliveries::clocks;
 use deliveries::tables::{add_one, cut, damage_tables, delay, derive, other_words, rows, Limited, RowEdit};
-use deliveries::tally::{OF_QUESTIONS, OF_SOUNDNESS};
+use deliveries::tally::{OF_CLOCKS, OF_QUESTIONS, OF_SOUNDNESS};
 use deliveries::{
     damage_file, large, limit, lines_in, mixed, name_in, of_each_sort, place, question, question_on_tables,
     Case, Limit, Outcomes, Question, Rng, World, FILES, NAMES,
@@ -74,13 +75,15 @@ impl Loaded {
 pub struct Desk<'c> {
     comparison: &'c mut Comparison,
     pub questions: Outcomes,
+    /// What stop times and changes told of clocks.
+    pub clocks: Outcomes,
     pub soundness: Outcomes,
 }
 
 impl<'c> Desk<'c> {
     pub fn new(comparison: &'c mut Comparison) -> Desk<'c> {
-        let (questions, soundness) = (Outcomes::new(OF_QUESTIONS), Outcomes::new(OF_SOUNDNESS));
-        Desk { comparison, questions, soundness }
+        let [questions, clocks, soundness] = [OF_QUESTIONS, OF_CLOCKS, OF_SOUNDNESS].map(Outcomes::new);
+        Desk { comparison, questions, clocks, soundness }
     }
 
     /// Asks of a delivery for each seed, of its tables damaged, and of damaged
@@ -88,7 +91,9 @@ impl<'c> Desk<'c> {
     pub fn compare_seeds(&mut self, seeds: Range<u64>, depth: Depth) -> io::Result<()> {
         for seed in seeds {
             let loaded = Loaded::by_seed(seed, of_each_sort(seed));
-            self.compare_loaded(&format!("asked-{seed}"), !seed, &loaded, depth.questions)?;
+            // Clocks have many borders.
+            let count = if loaded.world.overnight { 2 * depth.questions } else { depth.questions };
+            self.compare_loaded(&format!("asked-{seed}"), !seed, &loaded, count)?;
             self.compare_damaged(seed, &loaded, depth.damaged)?;
             self.compare_texts(seed)?;
         }
@@ -174,7 +179,7 @@ impl<'c> Desk<'c> {
     }
 
     /// Asks for a change again, of tables in which its gap is just what is
-    /// needed, and a minute less.
+    /// needed, and a minute less, where B's clocks stay.
     fn compare_borders(
         &mut self,
         name: &str,
@@ -247,6 +252,9 @@ impl<'c> Desk<'c> {
     fn ask(&mut self, name: &str, asked: &Question, lent: Lent, examined: &Examined) -> io::Result<Answered> {
         let answered = self.comparison.compare_answers(name, asked, lent, examined)?;
         self.questions.count(outcome(asked, &answered));
+        if let Some(came_to) = came_to(&answered) {
+            clocks::told(lent.tables, asked, came_to).into_iter().for_each(|told| self.clocks.count(told));
+        }
         Ok(answered)
     }
 }

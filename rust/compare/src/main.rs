@@ -8,8 +8,9 @@
 //! everything. Loads: deliveries of fixed seeds and of seeds that change with the
 //! date, every cause of every refusal, limits, large ones, ones with so many
 //! services that marks do not tell them apart, bytes replaced, files of the
-//! largest length. Questions: of loaded and damaged tables and of texts,
-//! by such seeds; of tables with every word and row changed; of large ones.
+//! largest length. Questions: of a boat over the change of the clocks; of loaded
+//! and damaged tables and of texts, by such seeds; of tables with every word and
+//! row changed; of large ones.
 //! Amendments: up to twelve in a row by such seeds, of damaged tables, by every
 //! cause in a block, of large tables, by blocks of the largest length; each also
 //! held against the proved load of the edited text. Where the two differ, FOLDER
@@ -17,6 +18,7 @@
 
 mod amended;
 mod asked;
+mod boat;
 mod bytes;
 mod caused;
 mod comparison;
@@ -47,7 +49,8 @@ const OFTEN: usize = 20;
 /// The same of questions: those of every run, and those new each day.
 const FIXED_QUESTIONS: Range<u64> = 0..2_500;
 const QUESTIONS_OF_TODAY: u64 = 250;
-/// Every outcome of a question and of soundness is met so often.
+/// Every outcome of a question and of soundness, and what is told of clocks, is
+/// met so often.
 const OUTCOMES_OFTEN: usize = 50;
 /// The same of amendments, in sequences.
 const FIXED_AMENDMENTS: Range<u64> = 0..700;
@@ -140,11 +143,12 @@ fn compare_loads(comparison: &mut Comparison) -> io::Result<Vec<String>> {
 
 fn compare_questions(comparison: &mut Comparison) -> io::Result<Vec<String>> {
     let start = Instant::now();
+    let mut complaints = boat::compare_all(comparison)?;
     let mut desk = Desk::new(comparison);
     desk.compare_seeds(FIXED_QUESTIONS, FULL)?;
-    let mut complaints: Vec<String> = rare_outcomes(&desk.questions, OUTCOMES_OFTEN)
-        .chain(rare_outcomes(&desk.soundness, OUTCOMES_OFTEN))
-        .collect();
+    for outcomes in [&desk.questions, &desk.clocks, &desk.soundness] {
+        complaints.extend(rare_outcomes(outcomes, OUTCOMES_OFTEN));
+    }
     complaints.extend(desk.compare_limits()?);
     desk.compare_places()?;
     desk.compare_junk()?;
@@ -209,6 +213,7 @@ fn odd_amendments(desk: amended::Desk) -> Vec<String> {
 
 fn print_desk(desk: &Desk) {
     println!("{} questions:\n{}", desk.questions.total(), desk.questions);
+    println!("Of clocks, those of a time's own day beside the service day's:\n{}", desk.clocks);
     println!(
         "{} times soundness, by the rule that is broken first:\n{}",
         desk.soundness.total(),
@@ -222,13 +227,13 @@ fn rare_outcomes(outcomes: &Outcomes, often: usize) -> impl Iterator<Item = Stri
 }
 
 fn odd_questions(desk: &Desk) -> Vec<String> {
-    odd_outcomes(&desk.questions).chain(odd_outcomes(&desk.soundness)).collect()
+    [&desk.questions, &desk.clocks, &desk.soundness].into_iter().flat_map(odd_outcomes).collect()
 }
 
-/// The outcomes that document 01 shuts out.
+/// The outcomes that the documents shut out.
 fn odd_outcomes(outcomes: &Outcomes) -> impl Iterator<Item = String> + '_ {
     let odd = outcomes.unexpected().into_iter();
-    odd.map(|outcome| format!("`{outcome}` cannot occur by document 01, and did."))
+    odd.map(|outcome| format!("`{outcome}` cannot occur by the documents, and did."))
 }
 
 fn too_few_accepted(tally: &Tally) -> Option<String> {

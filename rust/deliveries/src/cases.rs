@@ -49,11 +49,20 @@ pub fn full(seed: u64) -> (World, Case) {
     shaped(&mut rng, &shape)
 }
 
+/// A small sound delivery of services that run over midnight while the clocks
+/// change.
+pub fn overnight(seed: u64) -> (World, Case) {
+    let mut rng = Rng::new(seed);
+    let shape = Shape::overnight(&mut rng);
+    shaped(&mut rng, &shape)
+}
+
 /// A small sound delivery, each of these sorts in its turn.
 pub fn of_each_sort(seed: u64) -> (World, Case) {
     match seed % 4 {
         0 => at_borders(seed),
         1 => full(seed),
+        2 => overnight(seed),
         _ => sound(seed),
     }
 }
@@ -165,11 +174,13 @@ fn add_platforms(case: &mut Case) {
     case.rooms[TIMETBLS] = all.len();
 }
 
-/// Any of these: sound, at the borders, at a limit, with one cause or damaged.
+/// Any of these: sound, at the borders, overnight, at a limit, with one cause or
+/// damaged.
 pub fn mixed(seed: u64) -> Case {
     let mut rng = Rng::new(seed.wrapping_mul(0xD134_2543_DE82_EF95));
     match rng.below(100) {
-        0..=29 => sound(seed).1,
+        0..=25 => sound(seed).1,
+        26..=29 => overnight(seed).1,
         30..=37 => at_borders(seed).1,
         38..=39 => limit(seed, *rng.pick(&limits())),
         40..=54 => caused(seed, &mut rng),

@@ -6,9 +6,10 @@
 //! be made again.
 
 pub mod amendments;
-mod calendar;
+pub mod calendar;
 pub mod cases;
 pub mod causes;
+pub mod clocks;
 mod damage;
 mod fields;
 pub mod folder;
@@ -24,7 +25,7 @@ mod world;
 
 pub use amendments::{amendment, edited, Amendment};
 pub use cases::{
-    at_borders, crowded, damaged, large, limit, limits, mixed, of_each_sort, sound, Case, Limit,
+    at_borders, crowded, damaged, large, limit, limits, mixed, of_each_sort, overnight, sound, Case, Limit,
 };
 pub use causes::{causes, Cause};
 pub use damage::{damage_file, TELLING_BYTES};

@@ -4,9 +4,9 @@ use std::env;
 use std::path::Path;
 use std::process::ExitCode;
 
-use deliveries::{damaged, folder, large, mixed, sound, Case};
+use deliveries::{damaged, folder, large, mixed, overnight, sound, Case};
 
-const USAGE: &str = "usage: deliveries sound|damaged|mixed SEED FOLDER
+const USAGE: &str = "usage: deliveries sound|overnight|damaged|mixed SEED FOLDER
        deliveries large SERVICES rising|shuffled SEED FOLDER";
 
 fn main() -> ExitCode {
@@ -27,6 +27,7 @@ fn main() -> ExitCode {
 fn asked<'a>(arguments: &[&'a str]) -> Option<(Case, &'a str)> {
     match *arguments {
         ["sound", seed, folder] => Some((sound(seed.parse().ok()?).1, folder)),
+        ["overnight", seed, folder] => Some((overnight(seed.parse().ok()?).1, folder)),
         ["damaged", seed, folder] => Some((damaged(seed.parse().ok()?), folder)),
         ["mixed", seed, folder] => Some((mixed(seed.parse().ok()?), folder)),
         ["large", services, order @ ("rising" | "shuffled"), seed, folder] => {

@@ -152,6 +152,7 @@ fn few() -> Shape {
         change_rows: 1..=1,
         rising: false,
         at_borders: false,
+        overnight: false,
         changes: true,
         xfootnotes: true,
         xchanges: true,

@@ -33,14 +33,15 @@ pub fn question(rng: &mut Rng, world: &World) -> Question {
     }
 }
 
-/// A question that is lent a loaded store. A change can come to the most.
+/// A question that is lent a loaded store. A change can come to the most; a stop's
+/// time has two clocks overnight.
 pub fn question_on_tables(rng: &mut Rng, world: &World) -> Question {
     match rng.below(10) {
         0 | 1 => {
             let Side { service, stop: leg, date } = side(rng, world);
             Question::RunningDay { service, leg, date }
         }
-        2 | 3 => {
+        turn @ 2..=5 if turn <= 3 || world.overnight => {
             let Side { service, stop, date } = side(rng, world);
             Question::StopTime { service, stop, date }
         }
@@ -73,7 +74,7 @@ fn change(rng: &mut Rng, world: &World) -> (Side, Side) {
         return (side(rng, world), side(rng, world));
     }
     let &(i, j) = rng.pick(&meetings);
-    let day = rng.below(world.days);
+    let day = (day_within(rng, world) - world.first_day) as usize;
     // On one date a service does not meet itself, and few gaps reach 999 minutes.
     let on_one_date = if a.number == b.number { 20 } else { 60 };
     let later = if rng.percent(on_one_date) { day } else { (day + 1 + rng.below(3)).min(world.days - 1) };
@@ -137,8 +138,17 @@ fn date(rng: &mut Rng, world: &World) -> u64 {
         1 => rng.below(100_000_000) as u64,
         2 => calendar::written((world.first_day - 1).max(0)),
         3 => calendar::written((world.first_day + world.days as i64).min(calendar::LAST)),
-        _ => calendar::written(world.first_day + rng.below(world.days) as i64),
+        _ => calendar::written(day_within(rng, world)),
     }
+}
+
+/// A day of validity; overnight mostly one up to four days before clocks change.
+fn day_within(rng: &mut Rng, world: &World) -> i64 {
+    if world.overnight && !world.clock_changes.is_empty() && rng.percent(70) {
+        let before = rng.pick(&world.clock_changes) - 1 - rng.below(4) as i64;
+        return before.clamp(world.first_day, world.last_day());
+    }
+    world.first_day + rng.below(world.days) as i64
 }
 
 fn short_name(rng: &mut Rng, world: &World) -> u64 {

@@ -27,6 +27,9 @@ pub struct Shape {
     /// zones with days between their periods or none after the last day of
     /// validity, attributes at a single stop, days at the calendar's end.
     pub at_borders: bool,
+    /// Whether services run over midnight, often just up to it, while the clocks
+    /// change: zones have periods of a day or two each.
+    pub overnight: bool,
     /// Whether the last three files are there at all.
     pub changes: bool,
     pub xfootnotes: bool,
@@ -52,9 +55,26 @@ impl Shape {
             change_rows: 0..=8,
             rising: rng.percent(50),
             at_borders: false,
+            overnight: false,
             changes: rng.percent(70),
             xfootnotes: xchanges || rng.percent(30),
             xchanges,
+        }
+    }
+
+    /// Few days, stations and services, so that services meet often; mostly at the
+    /// borders too.
+    pub fn overnight(rng: &mut Rng) -> Shape {
+        let at_borders = rng.percent(70);
+        Shape {
+            days: 1..=12,
+            zones: 1..=2,
+            stations: 2..=3,
+            services: 2..=4,
+            stops: 4..=7,
+            at_borders,
+            overnight: true,
+            ..Shape::small(rng)
         }
     }
 
@@ -100,6 +120,7 @@ impl Shape {
             change_rows: 0..=20,
             rising,
             at_borders: false,
+            overnight: false,
             changes: true,
             xfootnotes: true,
             xchanges: true,

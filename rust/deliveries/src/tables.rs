@@ -24,20 +24,24 @@ const LINES: usize = 2;
 const STOPS: usize = 3;
 const LINE: usize = 6;
 
-const GROUP: u64 = b'#' as u64;
+pub const GROUP: u64 = b'#' as u64;
 /// Bytes on both sides of what is allowed.
 const BESIDE_ALLOWED: [u8; 9] = [0x00, 0x1f, b' ', 0x7e, 0x7f, 0x80, 0x9f, 0xa0, 0xff];
 /// `*` and two blanks, packed.
 const ANY_COMPANY: u64 = 0x2a_20_20;
 
-fn is_stop(row: &[u64]) -> bool {
+pub fn is_stop(row: &[u64]) -> bool {
     b">.+<".iter().any(|&letter| row[0] == u64::from(letter))
 }
 
 /// The rows of a table in use: those before the first whose first word is zero.
 pub fn rows(tables: &Tables, file: usize) -> Vec<Vec<u64>> {
-    let rows = tables[file].chunks_exact(WIDTHS[file]).take_while(|row| row[0] != 0);
-    rows.map(<[u64]>::to_vec).collect()
+    rows_in_use(tables, file).map(<[u64]>::to_vec).collect()
+}
+
+/// The same where they stand.
+pub fn rows_in_use(tables: &Tables, file: usize) -> impl Iterator<Item = &[u64]> {
+    tables[file].chunks_exact(WIDTHS[file]).take_while(|row| row[0] != 0)
 }
 
 /// Puts other rows into a table; it grows where they need more room.
@@ -355,10 +359,12 @@ fn add_day(tables: &mut Tables) {
     }
 }
 
+/// What `+` has where nobody alights or boards.
+pub const NO_TIME: u64 = 9_999;
+
 /// Has a service leave a stop so many minutes later, or earlier, with no other
 /// time but an arrival that is the same; not where there is no such time.
 pub fn delay(tables: &mut Tables, service: u64, stop: u64, minutes: i64) -> Option<()> {
-    const NO_TIME: u64 = 9_999;
     let mut rows = tables[TIMETBLS].chunks_exact_mut(WIDTHS[TIMETBLS]);
     rows.find(|row| row[0] == GROUP && row[1] == service)?;
     let mut stops = rows.take_while(|row| row[0] != GROUP).filter(|row| is_stop(row));

@@ -100,7 +100,7 @@ impl fmt::Display for Tally {
     }
 }
 
-/// What the desk's questions can come to by document 01. A stop has an arrival,
+/// What the desk's questions can come to by documents 01 and 02. A stop has an arrival,
 /// a departure or both, never neither.
 pub const OF_QUESTIONS: &[&str] = &[
     "running day: runs",
@@ -151,6 +151,29 @@ pub const OF_QUESTIONS: &[&str] = &[
     "lines now: of the block",
     "lines now: of the text",
     "lines now: refused 12",
+];
+
+/// What questions can tell of clocks: by which day a program goes, the service day
+/// or that of the time itself, and from which minute on.
+pub const OF_CLOCKS: &[&str] = &[
+    "stop time: arrival by other hours than the service day's",
+    "stop time: departure by other hours than the service day's",
+    "stop time: arrival and departure by different hours",
+    "stop time: the last minute before other hours",
+    "stop time: the first minute of other hours",
+    "stop time: arrival, the service day having no period",
+    "stop time: departure, the service day having no period",
+    "stop time: refused 15 by the arrival alone, the service day having a period",
+    "stop time: refused 15 by the departure alone, the service day having a period",
+    "stop time: refused 15 by both times, the service day having a period",
+    "stop time: refused 15 by the only time, the service day having a period",
+    "change: A by other hours than the service day's",
+    "change: B by other hours than the service day's",
+    "change: A, the service day having no period",
+    "change: B, the service day having no period",
+    "change: refused 15 by A alone, the service days having periods",
+    "change: refused 15 by B alone, the service days having periods",
+    "change: refused 15 by both sides, the service days having periods",
 ];
 
 /// What soundness can come to: the rule that the rows of tables break first. No

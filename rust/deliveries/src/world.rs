@@ -22,6 +22,10 @@ pub struct World {
     pub first_day: i64,
     pub days: usize,
     pub at_borders: bool,
+    pub overnight: bool,
+    /// The days, near those of validity, from which on a zone has another period
+    /// than before, or none.
+    pub clock_changes: Vec<i64>,
     pub companies: Vec<u64>,
     pub countries: Vec<Vec<u8>>,
     pub modes: Vec<Vec<u8>>,
@@ -30,6 +34,12 @@ pub struct World {
     pub footnotes: Vec<u64>,
     pub xfootnotes: Vec<u64>,
     pub services: Vec<Service>,
+}
+
+impl World {
+    pub fn last_day(&self) -> i64 {
+        self.first_day + self.days as i64 - 1
+    }
 }
 
 /// Makes a world of this shape and its eleven files.
@@ -45,7 +55,7 @@ pub fn make(rng: &mut Rng, shape: &Shape) -> (World, [Vec<u8>; FILES]) {
     write_companies(rng, &world, &mut files[COMPANY]);
     write_countries(rng, &world, &mut files[COUNTRY]);
     write_modes(rng, &world, &mut files[TRNSMODE]);
-    write_zones(rng, &world, &mut files[TIMEZONE]);
+    world.clock_changes = write_zones(rng, &world, &mut files[TIMEZONE]);
     write_stations(rng, &world, &mut files[STATIONS]);
     write_footnotes(rng, &world.footnotes, world.days, &mut files[FOOTNOTE]);
     write_services(rng, shape, &mut world, &mut files[TIMETBLS]);
@@ -105,6 +115,8 @@ fn keys(rng: &mut Rng, shape: &Shape) -> World {
         first_day: first_day(rng, days, shape.at_borders),
         days,
         at_borders: shape.at_borders,
+        overnight: shape.overnight,
+        clock_changes: Vec::new(),
         companies: numbers(rng, companies, 1, 999),
         countries: codes(rng, countries, 4),
         modes: codes(rng, modes, 4),
@@ -145,7 +157,6 @@ pub fn date(day: i64) -> Vec<u8> {
 }
 
 fn header(rng: &mut Rng, world: &World) -> Vec<u8> {
-    let last_day = world.first_day + world.days as i64 - 1;
     let version = rng.below(10_000) as u64;
     [
         b"@",
@@ -153,7 +164,7 @@ fn header(rng: &mut Rng, world: &World) -> Vec<u8> {
         b",",
         &date(world.first_day),
         b",",
-        &date(last_day),
+        &date(world.last_day()),
         b",",
         &number(version, 4),
         b",",
@@ -187,7 +198,9 @@ fn write_modes(rng: &mut Rng, world: &World, file: &mut Lines) {
     }
 }
 
-fn write_zones(rng: &mut Rng, world: &World, file: &mut Lines) {
+/// Answers the days on which clocks change.
+fn write_zones(rng: &mut Rng, world: &World, file: &mut Lines) -> Vec<i64> {
+    let mut changes = Vec::new();
     for &zone in &world.zones {
         file.line(&[b"#", &number(zone, 4)]);
         let mut periods = periods(rng, world);
@@ -198,11 +211,18 @@ fn write_zones(rng: &mut Rng, world: &World, file: &mut Lines) {
             let hours = if rng.percent(80) { rng.below(13) } else { rng.below(100) };
             let sign = [*rng.pick(b"+-")];
             file.line(&[&sign, &number(hours as u64, 2), b",", &date(first), b",", &date(last)]);
+            changes.extend([first, last + 1]);
         }
     }
+    let reached = world.first_day + 1..=world.last_day() + DAYS_AFTER;
+    changes.retain(|change| reached.contains(change));
+    changes
 }
 
 fn periods(rng: &mut Rng, world: &World) -> Vec<(i64, i64)> {
+    if world.overnight {
+        return short_periods(rng, world);
+    }
     let from = (world.first_day - rng.below(20) as i64).max(0);
     match world.at_borders {
         true => periods_with_gaps(rng, world, from),
@@ -213,7 +233,7 @@ fn periods(rng: &mut Rng, world: &World) -> Vec<(i64, i64)> {
 /// One or more periods, each from the day after the one before, that hold all
 /// days of validity and those that services reach after the last.
 fn periods_without_gaps(rng: &mut Rng, world: &World, from: i64) -> Vec<(i64, i64)> {
-    let reached = world.first_day + world.days as i64 - 1 + DAYS_AFTER;
+    let reached = world.last_day() + DAYS_AFTER;
     let to = (reached + [0, 0, 1, 200][rng.below(4)]).min(calendar::LAST);
     let inner = (from..to).filter(|_| rng.below((to - from) as usize) < 2).take(4);
     let ends: Vec<i64> = inner.chain([to]).collect();
@@ -221,10 +241,31 @@ fn periods_without_gaps(rng: &mut Rng, world: &World, from: i64) -> Vec<(i64, i6
     starts.zip(ends.iter().copied()).collect()
 }
 
+/// Periods of one or two days, each from the day after the one before up to the
+/// days that services reach after the last of validity. At the borders some days
+/// have none: at the beginning, between periods, and after the last of validity.
+fn short_periods(rng: &mut Rng, world: &World) -> Vec<(i64, i64)> {
+    let few = |rng: &mut Rng| rng.below(2) as i64;
+    let (from, after) = match world.at_borders {
+        true => (world.first_day + few(rng), rng.below(DAYS_AFTER as usize + 1) as i64),
+        false => (world.first_day - few(rng), DAYS_AFTER),
+    };
+    let end = (world.last_day() + after).min(calendar::LAST);
+    let mut first = from.clamp(0, end);
+    let mut periods = Vec::new();
+    while first <= end {
+        let last = (first + few(rng)).min(calendar::LAST);
+        periods.push((first, last));
+        let gap = if world.at_borders && rng.percent(60) { 1 + few(rng) } else { 0 };
+        first = last + 1 + gap;
+    }
+    periods
+}
+
 /// One or more periods that share no day, with and without days between them,
 /// up to the last day of validity, or some days before or after it.
 fn periods_with_gaps(rng: &mut Rng, world: &World, from: i64) -> Vec<(i64, i64)> {
-    let last_day = world.first_day + world.days as i64 - 1;
+    let last_day = world.last_day();
     let mut first = from;
     let mut periods = Vec::new();
     loop {
@@ -370,22 +411,34 @@ fn attribute_span(rng: &mut Rng, world: &World, stops: usize) -> (usize, usize) 
 
 /// The minutes of 99:59.
 const LATEST: usize = 5_999;
+const MINUTES_IN_DAY: usize = 1_440;
 
 fn time(minutes: usize) -> Vec<u8> {
     number((minutes / 60 * 100 + minutes % 60) as u64, 4)
 }
 
 fn write_stops(rng: &mut Rng, world: &World, stops: &[usize], file: &mut Lines) {
-    let mut now = rng.below(1_440);
+    let mut now = rng.below(MINUTES_IN_DAY);
     for (place, &station) in stops.iter().enumerate() {
         let station = &world.stations[station];
         let ride = if rng.percent(5) { rng.below(1_000) } else { rng.below(40) };
         now = (now + ride) % (LATEST - 30);
+        if world.overnight && rng.percent(60) {
+            now = before_midnight(rng, &[0, 0, 1, 1, 2, 9]);
+        }
         match place {
             0 => file.line(&[b">", station, b",", &time(now)]),
             _ if place == stops.len() - 1 => file.line(&[b"<", station, b",", &time(now)]),
-            _ if rng.percent(50) => file.line(&[b".", station, b",", &time(now)]),
-            _ => now = write_interval(rng, station, now, file),
+            _ if rng.percent(if world.overnight { 20 } else { 50 }) => {
+                file.line(&[b".", station, b",", &time(now)])
+            }
+            _ => {
+                // It arrives on one day and leaves on the next.
+                if world.overnight && rng.percent(80) {
+                    now = before_midnight(rng, &[1, 1, 1, 3]);
+                }
+                now = write_interval(rng, station, now, file);
+            }
         }
         if rng.percent(30) {
             file.line(&[b"?", &free(rng, 5), b",", &free(rng, 5), b",", &footnote(rng, world)]);
@@ -394,6 +447,11 @@ fn write_stops(rng: &mut Rng, world: &World, stops: &[usize], file: &mut Lines) 
             file.line(&[b";", rng.field(&world.stations)]);
         }
     }
+}
+
+/// So many minutes before the end of the service day or of one of the three after.
+fn before_midnight(rng: &mut Rng, minutes: &[usize]) -> usize {
+    MINUTES_IN_DAY * (1 + rng.below(4)) - rng.pick(minutes)
 }
 
 /// A `+` record; answers when it leaves.

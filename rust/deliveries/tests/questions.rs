@@ -7,11 +7,14 @@ mod reckoned;
 use std::collections::BTreeMap;
 
 use common::outcome;
+use deliveries::clocks::{self, CameTo};
 use deliveries::place::{STATIONS, TIMETBLS};
-use deliveries::{of_each_sort, question, Case, Question, Rng};
+use deliveries::tally::OF_CLOCKS;
+use deliveries::{of_each_sort, question, Case, Outcomes, Question, Rng};
 use reckoned::Desk;
+use second::encode::width;
 use second::questions::{Side, Verdict};
-use second::{change, lines_now, name, running_day, stop_time, Refusal, Store};
+use second::{change, encode, lines_now, name, running_day, stop_time, File, Refusal, Store};
 
 /// A refusal of a question has a number and no place.
 fn number(refusal: Refusal) -> u8 {
@@ -20,10 +23,10 @@ fn number(refusal: Refusal) -> u8 {
 }
 
 /// Asks both ways, and tells the answer in a few words.
-fn ask_both_ways(store: &Store, case: &Case, desk: &Desk, question: Question) -> String {
+fn ask_both_ways(store: &Store, case: &Case, desk: &Desk, question: &Question) -> String {
     let side =
         |side: deliveries::questions::Side| Side { service: side.service, stop: side.stop, date: side.date };
-    let answer: Result<String, u8> = match question {
+    let answer: Result<String, u8> = match *question {
         Question::RunningDay { service, leg, date } => {
             let answer = running_day(store, service, leg, date).map_err(number);
             assert_eq!(answer, desk.running_day(service, leg, date));
@@ -48,29 +51,46 @@ fn ask_both_ways(store: &Store, case: &Case, desk: &Desk, question: Question) ->
             assert_eq!(answer, desk.name(short_name));
             answer.map(|_| "name".into())
         }
-        Question::LinesNow { service, block } => {
-            let answer = lines_now(&case.files[TIMETBLS], &block, service).map_err(number);
-            assert_eq!(answer.map(<[u8]>::to_vec), desk.lines_now(service, &block));
+        Question::LinesNow { service, ref block } => {
+            let answer = lines_now(&case.files[TIMETBLS], block, service).map_err(number);
+            assert_eq!(answer.map(<[u8]>::to_vec), desk.lines_now(service, block));
             answer.map(|_| "lines now".into())
         }
     };
     answer.unwrap_or_else(|number| format!("refused {number}"))
 }
 
+/// What an answer in words came to, as far as clocks are concerned.
+fn came_to(answer: &str) -> Option<CameTo> {
+    let with_gap = ["Yes", "Unsettled", "no Gap", "no PairImpossible", "no NoChangesHere"];
+    match answer {
+        "refused 15" => Some(CameTo::NoPeriod),
+        "stop time" => Some(CameTo::Times),
+        answer if with_gap.iter().any(|word| answer.starts_with(word)) => Some(CameTo::Times),
+        _ => None,
+    }
+}
+
 #[test]
 fn questions_meet_every_answer() {
     let mut answers: BTreeMap<String, usize> = BTreeMap::new();
+    let mut clocks = Outcomes::new(OF_CLOCKS);
     for seed in 0..2_000 {
         let (world, case) = of_each_sort(seed);
         let store = outcome(&case).unwrap();
         let desk = Desk::new(&case);
+        let tables = encode(&store, &File::ALL.map(|file| case.rooms[file.index()] * width(file)));
         let mut rng = Rng::new(seed);
         for _ in 0..30 {
             let asked = question(&mut rng, &world);
-            *answers.entry(ask_both_ways(&store, &case, &desk, asked)).or_default() += 1;
+            let answer = ask_both_ways(&store, &case, &desk, &asked);
+            let told = came_to(&answer).map(|came_to| clocks::told(&tables, &asked, came_to));
+            told.into_iter().flatten().for_each(|told| clocks.count(told));
+            *answers.entry(answer).or_default() += 1;
         }
     }
-    println!("{answers:#?}");
+    println!("{answers:#?}\n{clocks}");
+    assert!(clocks.rarer_than(20).is_empty() && clocks.unexpected().is_empty(), "{clocks}");
     let expected = [
         "Unsettled by Stations",
         "Unsettled by XChanges",

@@ -3,6 +3,7 @@
 use proved::{Answer, Change, Reason, Refusal, Running, Source, StopTimes, Time, Verdict};
 use serde_derive::Serialize;
 
+use crate::dates;
 use crate::explain::Explanation;
 use crate::files::{latin, NAMES};
 use crate::records::unpack;
@@ -118,16 +119,24 @@ impl Runs {
     }
 }
 
-/// Minutes from 0000 of the service day.
-#[derive(Serialize, Clone, Copy)]
+/// The date DDMMYYYY on which minutes from 0000 of a service day fall; a day after
+/// 31 December 9999 has none.
+pub fn date_of(local: i64, service_day: u64) -> Option<String> {
+    dates::date_of(local, service_day).map(|date| format!("{date:08}"))
+}
+
+/// Minutes from 0000 of the service day, and the date on which the local ones fall.
+#[derive(Serialize)]
 pub struct Minutes {
     pub local: i32,
     pub reference: i32,
+    pub date: Option<String>,
 }
 
 impl Minutes {
-    fn of(time: Time) -> Minutes {
-        Minutes { local: time.local.0, reference: time.reference.0 }
+    fn of(time: Time, service_day: u64) -> Minutes {
+        let (local, reference) = (time.local.0, time.reference.0);
+        Minutes { local, reference, date: date_of(local.into(), service_day) }
     }
 }
 
@@ -141,11 +150,11 @@ pub struct Stop {
 }
 
 impl Stop {
-    pub fn of(times: &StopTimes) -> Stop {
+    pub fn of(times: &StopTimes, service_day: u64) -> Stop {
         Stop {
             station: latin(&unpack(times.station, 7)),
-            arrival: times.arrival.map(Minutes::of),
-            departure: times.departure.map(Minutes::of),
+            arrival: times.arrival.map(|time| Minutes::of(time, service_day)),
+            departure: times.departure.map(|time| Minutes::of(time, service_day)),
             name: None,
         }
     }
@@ -177,6 +186,8 @@ pub struct Side {
     /// Minutes on the station's clocks from 0000 of the service day: the arrival
     /// of the one, the departure of the other.
     pub local: Option<i64>,
+    /// The date on which they fall.
+    pub date: Option<String>,
 }
 
 impl Changed {
@@ -291,6 +302,11 @@ pub struct Called {
     pub name: Option<String>,
     pub arrival: Option<i64>,
     pub departure: Option<i64>,
+    /// The dates on which these fall, where a date was asked for.
+    #[serde(skip_serializing_if = "Option::is_none")]
+    pub arrival_date: Option<String>,
+    #[serde(skip_serializing_if = "Option::is_none")]
+    pub departure_date: Option<String>,
     pub alight: bool,
     pub board: bool,
 }

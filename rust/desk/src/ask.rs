@@ -41,7 +41,7 @@ impl Question<'_> {
                 json(&Runs::of(proved::running_day(tables.lent(), service, leg, date)?))
             }
             Question::Stop { service, stop, date } => {
-                json(&Stop::of(&proved::stop_time(tables.lent(), service, stop, date)?))
+                json(&Stop::of(&proved::stop_time(tables.lent(), service, stop, date)?, date))
             }
             Question::Change { from, to } => json(&Changed::of(&proved::change(tables.lent(), from, to)?)),
             Question::Name(_) | Question::Lines(_) | Question::Amend { .. } => String::new(),

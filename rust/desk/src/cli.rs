@@ -120,7 +120,8 @@ Example:
     },
     /// When does a service call at a stop?
     #[command(after_help = "\
-It does not ask whether the service runs that day.
+Each time is shown with the day it falls on, which may be days after the service's date, and
+goes by the zone's clocks of that day. It does not ask whether the service runs.
 
 Example:
   calyxcabin stop night-boats 1 2 14122015")]
@@ -147,7 +148,7 @@ Example:
         /// Its number, behind `#` in TIMETBLS
         #[arg(value_parser = number)]
         service: u64,
-        /// Also tell whether it runs on this date
+        /// Also tell whether it runs on this date, and on which days its times fall
         #[arg(value_parser = dates::parse)]
         date: Option<u64>,
     },

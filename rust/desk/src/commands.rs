@@ -7,7 +7,7 @@ use proved::{Answer, Change, Reason, Refusal, Running, Side, Source, Verdict};
 
 use crate::answers::{self, json, Accepted, Changed, Name, Refused, Runs, TextLines};
 use crate::cli::Command;
-use crate::dates::{self, clock, date, time};
+use crate::dates::{self, clock, date, time_on};
 use crate::explain::questions::{packed, question, Asked};
 use crate::explain::{self, Explanation, Whose};
 use crate::files::place::*;
@@ -231,15 +231,15 @@ impl Desk {
                     _ => "it ends here".to_string(),
                 },
                 None => none.to_string(),
-                Some(when) => format!(
-                    "{} (reference clock {})",
-                    on_day(i64::from(when.local.0), day),
-                    time(i64::from(when.reference.0))
-                ),
+                Some(when) => {
+                    let (local, reference) = (i64::from(when.local.0), i64::from(when.reference.0));
+                    let reference = dates::beside(local, reference, day);
+                    format!("{}, reference clock {reference}", time_on(local, day))
+                }
             };
             text += &format!("  {what}  {said}\n");
         }
-        let answer = answers::Stop { name: names.station(times.station), ..answers::Stop::of(&times) };
+        let answer = answers::Stop { name: names.station(times.station), ..answers::Stop::of(&times, day) };
         Ok(Told::new(DONE, text, json(&answer)))
     }
 
@@ -266,7 +266,7 @@ impl Desk {
         };
         let why = why(&change, from, to, &names.both(left.station), &names.both(boarded.station));
         let side = |what: &str, side: Side, station: u64, does: &str, when: Option<i64>, none: &str| {
-            let when = when.map_or(none.to_string(), |when| format!("{does} {}", on_day(when, side.date)));
+            let when = when.map_or(none.to_string(), |when| format!("{does} {}", time_on(when, side.date)));
             format!(
                 "  {what}   service {:08} at stop {}, {}: {when}\n",
                 side.service,
@@ -277,8 +277,14 @@ impl Desk {
         let mut text = format!("{verdict}: {why}\n");
         text += &side("leave", from, left.station, "arrives", arrival, "nobody alights");
         text += &side("board", to, boarded.station, "departs", departure, "nobody boards");
-        if let Some(gap) = change.gap {
-            text += &format!("  gap     {}\n", dates::length(i64::from(gap)));
+        if let Some(gap) = change.gap.map(i64::from) {
+            let by_clocks = arrival.zip(departure).and_then(|(arrival, departure)| {
+                dates::between((arrival, from.date), (departure, to.date)).filter(|&minutes| minutes != gap)
+            });
+            let by_clocks = by_clocks.map_or(String::new(), |minutes| {
+                format!("; by the station's clocks {}: they change in between", dates::length(minutes))
+            });
+            text += &format!("  gap     {}{by_clocks}\n", dates::length(gap));
         }
         if let Some(source) = change.source {
             let needed = change
@@ -286,12 +292,17 @@ impl Desk {
                 .map_or("none: it may not be made".into(), |needed| dates::length(needed as i64));
             text += &format!("  needed  {needed}, by {}\n", source_name(source));
         }
-        let told = |station: u64, local: Option<i64>| {
-            Some(answers::Side { station: latin(&unpack(station, 7)), name: names.station(station), local })
+        let told = |side: Side, station: u64, local: Option<i64>| {
+            Some(answers::Side {
+                station: latin(&unpack(station, 7)),
+                name: names.station(station),
+                local,
+                date: local.and_then(|local| answers::date_of(local, side.date)),
+            })
         };
         let changed = Changed {
-            from: told(left.station, arrival),
-            to: told(boarded.station, departure),
+            from: told(from, left.station, arrival),
+            to: told(to, boarded.station, departure),
             ..Changed::of(&change)
         };
         Ok(Told::new(status, text, json(&changed)))
@@ -318,7 +329,7 @@ impl Desk {
                 }
             }
         }
-        let shown = show::service(&store, held, &runs)?;
+        let shown = show::service(&store, held, day, &runs)?;
         let text = show::service_text(&shown, day, &store.tables, self.colour);
         Ok(Told::new(DONE, text, json(&shown)))
     }
@@ -435,15 +446,6 @@ fn amendment_refused(store: &Store, service: u64, block: &[u8], answer: &Answer)
     told.ordinal = answer.ordinal;
     told.file_line = None;
     told
-}
-
-/// A time on a service's day: `05:30 on 14 Dec 2015`, `01:10 the day after 14 Dec 2015`.
-fn on_day(minutes: i64, day: u64) -> String {
-    let said = time(minutes);
-    match said.contains(' ') {
-        true => format!("{said} {}", date(day)),
-        false => format!("{said} on {}", date(day)),
-    }
 }
 
 fn source_name(source: Source) -> &'static str {

@@ -1,7 +1,7 @@
 //! Services and stations as they are shown.
 
 use crate::answers;
-use crate::dates::{self, clock, date, time};
+use crate::dates::{self, brief_time_on, clock, date, time};
 use crate::files::latin;
 use crate::names::{Names, Operators};
 use crate::records::unpack;
@@ -10,9 +10,14 @@ use crate::store::Store;
 use crate::tables::{stop_of, Service, Tables};
 use crate::trouble::Trouble;
 
-/// A service as it stands; `runs` says of each record of validity whether it
-/// runs on the date that was asked for.
-pub fn service(store: &Store, held: Service, runs: &[bool]) -> Result<answers::Service, Trouble> {
+/// A service as it stands, with the dates of its times where a date was asked for;
+/// `runs` says of each record of validity whether it runs on that date.
+pub fn service(
+    store: &Store,
+    held: Service,
+    day: Option<u64>,
+    runs: &[bool],
+) -> Result<answers::Service, Trouble> {
     let (names, operators) = (Names::of(store)?, Operators::of(store)?);
     let tables = &store.tables;
     let validity = tables.validity();
@@ -62,18 +67,24 @@ pub fn service(store: &Store, held: Service, runs: &[bool]) -> Result<answers::S
                 name: names.station(row[1]),
                 arrival: None,
                 departure: None,
+                arrival_date: None,
+                departure_date: None,
                 alight: false,
                 board: false,
             }),
             _ => {
                 let Some(stop) = stop_of(row) else { continue };
                 stops += 1;
+                let (arrival, departure) = (stop.arrival.map(clock), stop.departure.map(clock));
+                let date_of = |minutes: Option<i64>| answers::date_of(minutes?, day?);
                 shown.stops.push(answers::Called {
                     stop: Some(stops),
                     station: latin(&unpack(stop.station, 7)),
                     name: names.station(stop.station),
-                    arrival: stop.arrival.map(clock),
-                    departure: stop.departure.map(clock),
+                    arrival,
+                    departure,
+                    arrival_date: date_of(arrival),
+                    departure_date: date_of(departure),
                     alight: stop.arrival.is_some(),
                     board: stop.departure.is_some(),
                 });
@@ -137,9 +148,17 @@ pub fn service_text(shown: &answers::Service, day: Option<u64>, tables: &Tables,
     };
     let width =
         shown.stops.iter().map(|stop| name(stop).chars().count()).max().unwrap_or(0).max("station".len());
-    text += &format!("\n  stop  {:<width$}  {:<19}  departs\n", "station", "arrives");
-    for stop in &shown.stops {
-        let when = |minutes: Option<i64>| minutes.map_or(String::new(), time);
+    let when = |minutes: Option<i64>| match (minutes, day) {
+        (None, _) => String::new(),
+        (Some(minutes), Some(day)) => brief_time_on(minutes, day),
+        (Some(minutes), None) => time(minutes),
+    };
+    let times: Vec<[String; 2]> =
+        shown.stops.iter().map(|stop| [stop.arrival, stop.departure].map(when)).collect();
+    let widest = |which: usize| times.iter().map(|times| times[which].len()).max().unwrap_or(0);
+    let [arrives, departs] = [widest(0), widest(1)].map(|width| width.max("arrives".len()));
+    text += &format!("\n  stop  {:<width$}  {:<arrives$}  departs\n", "station", "arrives");
+    for (stop, [arrival, departure]) in shown.stops.iter().zip(&times) {
         let number = stop.stop.map_or(String::new(), |number| number.to_string());
         let may = match (stop.stop, stop.alight, stop.board) {
             (None, ..) => "passes without a stop",
@@ -150,10 +169,8 @@ pub fn service_text(shown: &answers::Service, day: Option<u64>, tables: &Tables,
             _ => "board only",
         };
         text += &format!(
-            "  {number:>4}  {:<width$}  {:<19}  {:<19}  {may}\n",
-            name(stop),
-            when(stop.arrival),
-            when(stop.departure)
+            "  {number:>4}  {:<width$}  {arrival:<arrives$}  {departure:<departs$}  {may}\n",
+            name(stop)
         );
     }
     text

@@ -65,15 +65,15 @@ fn changes_are_answered() {
     let store = opened(&folder);
     let unsettled = "\
 Unsettled: the needed time is 99, the highest number its two columns can hold: the real time may be longer. Gap 130. Ask the supplier before selling.
-  leave   service 00000001 at stop 2, HAR Harwich International: arrives 06:30 the day after 14 Dec 2015
-  board   service 00000003 at stop 1, HAR Harwich International: departs 08:40 on 15 Dec 2015
+  leave   service 00000001 at stop 2, HAR Harwich International: arrives 06:30 on Tue 15 Dec 2015 (30:30 of service day 14 Dec 2015)
+  board   service 00000003 at stop 1, HAR Harwich International: departs 08:40 on Tue 15 Dec 2015
   gap     130 minutes (2 h 10)
   needed  99 minutes (1 h 39), by STATIONS
 ";
     let said = line("change {} 1 2 14122015 3 1 2015-12-15", &[&store]);
     assert_eq!((said.status, said.out.as_str(), said.err.as_str()), (Some(4), unsettled, ""));
     let said = line("change {} 1 2 14122015 3 1 15122015 --json", &[&store]);
-    let expected = "{\"change\":\"unsettled\",\"gap\":130,\"source\":\"stations\",\"needed\":99,\"from\":{\"station\":\"HAR    \",\"name\":\"Harwich International\",\"local\":1830},\"to\":{\"station\":\"HAR    \",\"name\":\"Harwich International\",\"local\":520}}\n";
+    let expected = "{\"change\":\"unsettled\",\"gap\":130,\"source\":\"stations\",\"needed\":99,\"from\":{\"station\":\"HAR    \",\"name\":\"Harwich International\",\"local\":1830,\"date\":\"15122015\"},\"to\":{\"station\":\"HAR    \",\"name\":\"Harwich International\",\"local\":520,\"date\":\"15122015\"}}\n";
     assert_eq!((said.status, said.out.as_str()), (Some(4), expected));
 
     let ask = |words: &str| line(&format!("change {{}} {words}"), &[&store]);
@@ -95,7 +95,7 @@ Unsettled: the needed time is 99, the highest number its two columns can hold: t
     ask("1 2 14122015 3 1 31022016").is(1, "31022016 (the one to board), which no calendar has");
     let words = ["change", "5", "3", "5 Jan 2016", "1", "1", "5 jan 2016"].map(OsStr::new);
     run([words[0], store.as_os_str()].into_iter().chain(words[1..].iter().copied()))
-        .is(0, "21:12 on 5 Jan 2016");
+        .is(0, "21:12 on Tue 5 Jan 2016");
 }
 
 /// 999 of XCHANGES is at the top of its three columns, 099 is not.
@@ -129,10 +129,15 @@ fn questions_are_answered() {
     assert_eq!(ask("runs 1 1 25122015 --json").out, "{\"runs\":false}\n");
     ask("runs 1 2 14122015").is(1, "a leg from 1 to 1");
     ask("runs 1 1 99999999999999999999999999").is(1, "Refused 14");
-    ask("stop 1 2 14122015").is(0, "arrives  06:30 the day after 14 Dec 2015").is(0, "departs  it ends here");
+    ask("stop 1 2 14122015")
+        .is(
+            0,
+            "arrives  06:30 on Tue 15 Dec 2015 (30:30 of service day 14 Dec 2015), reference clock 06:30\n",
+        )
+        .is(0, "departs  it ends here");
     ask("stop 4 2 14122015").is(0, "departs  nobody boards");
-    ask("stop 1 1 1072016").is(0, "departs  22:00 on 1 Jul 2016 (reference clock 20:00)");
-    let stop = "{\"station\":\"HAR    \",\"arrival\":{\"local\":1830,\"reference\":1830},\"departure\":null,\"name\":\"Harwich International\"}\n";
+    ask("stop 1 1 1072016").is(0, "departs  22:00 on Fri 1 Jul 2016, reference clock 20:00\n");
+    let stop = "{\"station\":\"HAR    \",\"arrival\":{\"local\":1830,\"reference\":1830,\"date\":\"15122015\"},\"departure\":null,\"name\":\"Harwich International\"}\n";
     assert_eq!(ask("stop 1 2 14122015 --json").out, stop);
     ask("stop 1 3 14122015").is(1, "a stop from 1 to 2");
 
@@ -142,20 +147,25 @@ Service 00000004, 3 stops
   mode IC Intercity
   runs on 260 days from 13 Dec 2015 to 10 Dec 2016 (footnote 00002); does not run on 19 Dec 2015
 
-  stop  station                      arrives              departs
-     1  LST London Liverpool Street                       19:32                board
-     2  COL Colchester               20:28                                     alight only
-        MNG Manningtree                                                        passes without a stop
-     3  HAR Harwich International    20:58                                     alight
+  stop  station                      arrives                   departs
+     1  LST London Liverpool Street                            19:32 on Sat 19 Dec 2015  board
+     2  COL Colchester               20:28 on Sat 19 Dec 2015                            alight only
+        MNG Manningtree                                                                  passes without a stop
+     3  HAR Harwich International    20:58 on Sat 19 Dec 2015                            alight
 ";
     assert_eq!(ask("service 4 2015-12-19").out, service);
-    ask("service 1").is(0, "06:30 the day after");
+    let stops = "
+  stop  station                     arrives                      departs
+     1  HVH Hoek van Holland Haven                               22:00    board
+     2  HAR Harwich International   06:30 the day after (30:30)           alight
+";
+    ask("service 1").is(0, stops);
     ask("service 1 14122014").is(1, "Refused 14");
     ask("service 7").is(1, "one of the delivery's 6 services, numbered from 00000001 to 00000006");
     let shown = ask("service 4 19122015 --json").json();
     assert_eq!(
         shown["stops"][1],
-        json!({"stop":2,"station":"COL    ","name":"Colchester","arrival":1228,"departure":null,"alight":true,"board":false})
+        json!({"stop":2,"station":"COL    ","name":"Colchester","arrival":1228,"departure":null,"arrival_date":"19122015","alight":true,"board":false})
     );
     assert_eq!(shown["validities"], json!([{"footnote":2,"first":1,"last":3,"days":260,"runs":false}]));
 
@@ -163,6 +173,7 @@ Service 00000004, 3 stops
         .is(0, "HAR Harwich International\n")
         .is(0, "change time 99, the highest number")
         .is(0, "calls        4");
+    ask("station HAR").is(0, "service 00000001, stop   2: arrives 06:30 the day after (30:30)\n");
     ask("station MNG").is(0, "none are made here (flag 0)");
     ask("station har").is(1, "Refused 17").is(1, "STATIONS has HAR: is that meant?");
     let shown = ask("station LST --json").json();
@@ -177,6 +188,132 @@ Service 00000004, 3 stops
     ask("lines 7").is(1, "Refused 12");
     line("runs {} 1 1 1", &[&example()]).is(2, "is a delivery and no store. First: calyxcabin open");
     line("runs {} 1 1 1", &[&folder]).is(2, "is no store, or its `open` was not finished");
+}
+
+/// On Sunday 27 March 2016 the clocks go an hour ahead, while the night boat of
+/// Saturday is at sea.
+#[test]
+fn the_clocks_change_at_sea() {
+    let folder = folder("clocks");
+    let store = opened(&folder);
+    let ask = |words: &str| {
+        let (command, rest) = words.split_once(' ').unwrap();
+        line(&format!("{command} {{}} {rest}"), &[&store])
+    };
+    let landing = "\
+HAR Harwich International (stop 2 of 2 of service 00000001)
+  arrives  06:30 on Sun 27 Mar 2016 (30:30 of service day 26 Mar 2016), reference clock 05:30
+  departs  it ends here
+";
+    assert_eq!(ask("stop 1 2 26032016").out, landing);
+    ask("stop 1 2 25032016")
+        .is(0, "06:30 on Sat 26 Mar 2016 (30:30 of service day 25 Mar 2016), reference clock 06:30\n");
+    ask("stop 1 1 26032016").is(0, "departs  22:00 on Sat 26 Mar 2016, reference clock 21:00\n");
+    let stop = "{\"station\":\"HAR    \",\"arrival\":{\"local\":1830,\"reference\":1770,\"date\":\"27032016\"},\"departure\":null,\"name\":\"Harwich International\"}\n";
+    assert_eq!(ask("stop 1 2 26032016 --json").out, stop);
+    // 460 + 1440 - 1770: by the clocks of Saturday it would be 70, and No.
+    let unsettled = "\
+Unsettled: the needed time is 99, the highest number its two columns can hold: the real time may be longer. Gap 130. Ask the supplier before selling.
+  leave   service 00000001 at stop 2, HAR Harwich International: arrives 06:30 on Sun 27 Mar 2016 (30:30 of service day 26 Mar 2016)
+  board   service 00000003 at stop 1, HAR Harwich International: departs 08:40 on Sun 27 Mar 2016
+  gap     130 minutes (2 h 10)
+  needed  99 minutes (1 h 39), by STATIONS
+";
+    assert_eq!(ask("change 1 2 26032016 3 1 27032016").out, unsettled);
+    // 460 + 2 * 1440 - 1830, where the clocks show 520 + 2 * 1440 - 1830.
+    let apart = "  gap     1510 minutes (25 h 10); by the station's clocks 1570 minutes (26 h 10): they change in between\n";
+    ask("change 1 2 25032016 3 1 27032016").is(4, apart);
+    let told = ask("change 1 2 26032016 3 1 27032016 --json").json();
+    assert_eq!([&told["from"]["local"], &told["from"]["date"]], [&json!(1830), &json!("27032016")]);
+    assert_eq!([&told["to"]["local"], &told["to"]["date"]], [&json!(520), &json!("27032016")]);
+    let stops = "
+  stop  station                     arrives                           departs
+     1  HVH Hoek van Holland Haven                                    22:00 on Sat 26 Mar 2016  board
+     2  HAR Harwich International   06:30 on Sun 27 Mar 2016 (30:30)                            alight
+";
+    ask("service 1 26032016").is(0, stops);
+    let told = ask("service 1 26032016 --json").json();
+    let dates = [&told["stops"][0]["departure_date"], &told["stops"][1]["arrival_date"]];
+    assert_eq!(dates, [&json!("26032016"), &json!("27032016")]);
+    assert!(ask("service 1 --json").json()["stops"][1].get("arrival_date").is_none());
+}
+
+/// The zones of the example end with its validity, on 10 December 2016: the night
+/// boat of that day lands on one without a period.
+#[test]
+fn a_day_without_a_period_is_named() {
+    let folder = folder("no period");
+    let store = opened(&folder);
+    let ask = |words: &str| {
+        let (command, rest) = words.split_once(' ').unwrap();
+        line(&format!("{command} {{}} {rest}"), &[&store])
+    };
+    let refused = "\
+Refused 15: the station's time zone has no period on that day
+  found     Sun 11 Dec 2016 at HAR, in zone 0001: arrival of service 00000001 at 06:30, which is 30:30 of service day 10 Dec 2016
+  expected  a day in 13 Dec 2015 to 26 Mar 2016, or 27 Mar 2016 to 29 Oct 2016, or 30 Oct 2016 to 10 Dec 2016
+  to do     TIMEZONE lacks a period: ask the supplier for it.
+";
+    let said = ask("stop 1 2 10122016");
+    assert_eq!((said.status, said.out.as_str()), (Some(1), refused));
+    assert_eq!(ask("change 1 2 10122016 3 1 10122016").out, refused);
+    let told = ask("stop 1 2 10122016 --json").json();
+    assert_eq!(told["refused"]["number"], json!(15));
+    assert!(told["refused"]["found"].as_str().unwrap().starts_with("Sun 11 Dec 2016 at HAR, in zone 0001"));
+    ask("stop 1 1 10122016").is(0, "departs  22:00 on Sat 10 Dec 2016, reference clock 21:00\n");
+    ask("stop 1 2 9122016").is(0, "06:30 on Sat 10 Dec 2016 (30:30 of service day 9 Dec 2016)");
+    // The boat of the day before lands on a day with a period; the train leaves on
+    // one without.
+    let file = folder.join("block");
+    fs::write(&file, with(&block(&store, 3), ">HAR    ,0840", ">HAR    ,3240")).unwrap();
+    line("amend {} 3 {}", &[&store, &file]).is(0, "Accepted");
+    ask("change 1 2 9122016 3 1 10122016").is(
+        1,
+        "found     Sun 11 Dec 2016 at HAR, in zone 0001: departure of service 00000003 at 08:40, which is 32:40 of service day 10 Dec 2016\n",
+    );
+}
+
+/// After 31 December 9999 a day has no date.
+#[test]
+fn days_after_the_calendars_end_are_told() {
+    let folder = folder("calendar");
+    let delivery = folder.join("delivery");
+    copy(&example(), &delivery);
+    // 364 days again, the last of them the last of the calendar.
+    let last_year = [
+        ("13122015", "02019999"),
+        ("26032016", "26039999"),
+        ("27032016", "27039999"),
+        ("29102016", "29109999"),
+        ("30102016", "30109999"),
+        ("10122016", "31129999"),
+    ];
+    for file in files(&delivery) {
+        let mut text = String::from_utf8(fs::read(&file).unwrap()).unwrap();
+        for (date, later) in last_year {
+            text = text.replace(date, later);
+        }
+        fs::write(&file, text).unwrap();
+    }
+    let store = folder.join("store");
+    line("open {} {}", &[&delivery, &store]).is(0, "Accepted: 364 days, 2 Jan 9999 to 31 Dec 9999");
+    let ask = |words: &str| {
+        let (command, rest) = words.split_once(' ').unwrap();
+        line(&format!("{command} {{}} {rest}"), &[&store])
+    };
+    ask("stop 1 1 31129999").is(0, "departs  22:00 on Fri 31 Dec 9999, reference clock 21:00\n");
+    ask("stop 1 2 30129999").is(0, "06:30 on Fri 31 Dec 9999 (30:30 of service day 30 Dec 9999)");
+    ask("stop 1 2 31129999").is(
+        1,
+        "found     the day after 31 Dec 9999 at HAR, in zone 0001: arrival of service 00000001 at 06:30, which is 30:30 of service day 31 Dec 9999\n",
+    );
+    ask("change 1 2 31129999 1 1 31129999")
+        .is(3, "arrives 06:30 the day after 31 Dec 9999 (30:30 of service day 31 Dec 9999)\n");
+    let told = ask("change 1 2 31129999 1 1 31129999 --json").json();
+    assert_eq!([&told["from"]["local"], &told["from"]["date"]], [&json!(1830), &json!(null)]);
+    assert_eq!(told["to"]["date"], json!("31129999"));
+    ask("service 1 31129999").is(0, "06:30 the day after 31 Dec 9999 (30:30)");
+    assert!(ask("service 1 31129999 --json").json()["stops"][1].get("arrival_date").is_none());
 }
 
 #[test]

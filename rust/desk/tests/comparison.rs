@@ -9,7 +9,8 @@ use std::path::Path;
 use common::*;
 use deliveries::place::{STATIONS, TIMETBLS};
 use deliveries::{
-    amendment, folder as write_folder, of_each_sort, question_on_tables, Amendment, Question, Rng, World,
+    amendment, calendar, folder as write_folder, of_each_sort, question_on_tables, Amendment, Question, Rng,
+    World,
 };
 use second::questions::{Change, Reason, Source, Verdict};
 use serde_json::{json, Map, Value};
@@ -30,11 +31,14 @@ fn latin(bytes: &[u8]) -> String {
     bytes.iter().map(|&byte| char::from(byte)).collect()
 }
 
-fn stop(times: second::questions::StopTime) -> Value {
+fn stop(times: second::questions::StopTime, date: u64) -> Value {
+    // A day after the last of the calendar has no period, so none is answered.
+    let own_date = |local: i32| calendar::written(calendar::counted(date) + i64::from(local) / 1440);
     let time = |local: Option<second::LocalMinutes>, reference: Option<second::ReferenceMinutes>| {
-        local
-            .zip(reference)
-            .map_or(Value::Null, |(local, reference)| json!({"local": local.0, "reference": reference.0}))
+        local.zip(reference).map_or(Value::Null, |(local, reference)| {
+            let date = format!("{:08}", own_date(local.0));
+            json!({"local": local.0, "reference": reference.0, "date": date})
+        })
     };
     json!({
         "station": latin(&times.station.to_be_bytes()[1..]),
@@ -163,7 +167,7 @@ fn question(
             }
             Question::StopTime { service, stop: at, date } => {
                 let answer = second::stop_time(&other.store, service, at, date);
-                (format!("stop {service} {at} {date}"), answered(answer.map(stop)))
+                (format!("stop {service} {at} {date}"), answered(answer.map(|times| stop(times, date))))
             }
             Question::Change { from: a, to: b } => {
                 let side = |side: deliveries::questions::Side| second::questions::Side {

@@ -486,7 +486,7 @@ fn rights_are_told() {
     // Damaged tables are made again for the answer, though they cannot be kept.
     fs::write(store.join("1/tables"), b"").unwrap();
     let said = nobody(&["stop", &stored, "1", "1", "14122015"]);
-    said.is(0, "22:00 on 14 Dec 2015").is(0, "they were made again").is(0, "They could not be kept");
+    said.is(0, "22:00 on Mon 14 Dec 2015").is(0, "they were made again").is(0, "They could not be kept");
     mode(&folder.join("delivery/STATIONS"), 0o600);
     nobody(&["check", &delivery]).is(2, "STATIONS cannot be read: you may not read it");
     mode(&folder.join("delivery"), 0o700);

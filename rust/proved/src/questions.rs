@@ -118,8 +118,8 @@ pub fn running_day(tables: [&[u64]; FILES], service: u64, leg: u64, date: u64) -
     by_contract(answer, words)
 }
 
-/// When a service calls at a stop on a date, whether or not it runs then. 16,
-/// then 12, 13, 14, 15.
+/// When a service calls at a stop on a date, whether or not it runs then; each time
+/// by its zone's clocks on the day that it falls on. 16, then 12, 13, 14, 15.
 pub fn stop_time(tables: [&[u64]; FILES], service: u64, stop: u64, date: u64) -> Result<StopTimes, Refusal> {
     let (mut words, mut minutes) = ([UNANSWERED; 4], [i32::MIN; 4]);
     archive::stop_time(tables, service, stop, date, &mut words, &mut minutes);
@@ -142,7 +142,7 @@ fn stop_times(words: [u64; 4], minutes: [i32; 4]) -> Option<Result<StopTimes, Re
 }
 
 /// Whether one can change from one service to another. 16, then 12, 13, 14 for
-/// each side, and 15.
+/// each side, and 15, by the day that either time falls on.
 pub fn change(tables: [&[u64]; FILES], from: Side, to: Side) -> Result<Change, Refusal> {
     let (mut words, mut gap) = ([UNANSWERED; 7], [i32::MIN; 1]);
     archive::change(tables, from, to, &mut words, &mut gap);

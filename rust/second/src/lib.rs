@@ -1,4 +1,5 @@
-//! A second reading of document 01: IFF 4.2.4 deliveries at the connections desk.
+//! A second reading of document 01, with request W2 of document 02: IFF 4.2.4
+//! deliveries at the connections desk.
 //!
 //! A delivery of eleven files is loaded into a [`Store`] or refused with a
 //! number and a place. A store takes amendments of single services and answers

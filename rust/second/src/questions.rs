@@ -4,7 +4,7 @@ use crate::amend::{is_one_block, opens};
 use crate::columns::columns;
 use crate::lines::Lines;
 use crate::refusals::{Fault, Refusal};
-use crate::store::{Period, Possibility, Service, Stop, Store, XChange};
+use crate::store::{Possibility, Service, Stop, Store, XChange};
 use crate::values::{pack, Clock, Day, LocalMinutes, ReferenceMinutes};
 
 const MINUTES_IN_DAY: i32 = 1440;
@@ -32,19 +32,23 @@ pub struct StopTime {
     pub reference: Times<ReferenceMinutes>,
 }
 
-/// The times of a stop. It does not ask whether the service runs.
+/// The times of a stop, each by the clocks of its own day. It does not ask
+/// whether the service runs.
 pub fn stop_time(store: &Store, service: u64, stop: u64, date: u64) -> Result<StopTime, Refusal> {
     let service = find_service(store, service)?;
     let stop = service.stop(stop).ok_or(Fault::NoSuchStop.nowhere())?;
     let (day, _) = find_day(store, date)?;
-    let period = period_at(store, stop, day)?;
     let local =
         Times { arrival: stop.arrival.map(Clock::minutes), departure: stop.departure.map(Clock::minutes) };
-    let reference = |minutes: Option<LocalMinutes>| minutes.map(|minutes| period.reference(minutes));
+    // A time that the stop does not have falls on no day and asks for no period.
+    let reference = |time: Option<LocalMinutes>| time.map(|time| reference_at(store, stop, day, time));
     Ok(StopTime {
         station: store.stations.row(stop.station).short_name,
         local,
-        reference: Times { arrival: reference(local.arrival), departure: reference(local.departure) },
+        reference: Times {
+            arrival: reference(local.arrival).transpose()?,
+            departure: reference(local.departure).transpose()?,
+        },
     })
 }
 
@@ -129,8 +133,8 @@ pub fn change(store: &Store, from: Side, to: Side) -> Result<Change, Refusal> {
         Ok(clocks) => clocks,
         Err(reason) => return Ok(Change::no(reason)),
     };
-    let arrival = period_at(store, from.stop, from.day)?.reference(arrival.minutes());
-    let departure = period_at(store, to.stop, to.day)?.reference(departure.minutes());
+    let arrival = reference_at(store, from.stop, from.day, arrival.minutes())?;
+    let departure = reference_at(store, to.stop, to.day, departure.minutes())?;
     let gap = departure.0 - arrival.0 + to.day.days_after(from.day) * MINUTES_IN_DAY;
     Ok(Change::with_gap(gap, needed(store, &from, &to)))
 }
@@ -289,8 +293,23 @@ fn runs(store: &Store, service: &Service, leg: u16, offset: usize) -> bool {
     store.footnotes.row(service.footnote_on(leg)).vector.has(offset)
 }
 
-/// The period of the stop's zone that holds the service day.
-fn period_at(store: &Store, stop: Stop, day: Day) -> Result<&Period, Refusal> {
+/// A time at a stop on the reference clock, from 0000 of the service day: by the
+/// period of the stop's zone that holds the day of the time itself, since the
+/// clocks may change on the way.
+fn reference_at(
+    store: &Store,
+    stop: Stop,
+    service_day: Day,
+    time: LocalMinutes,
+) -> Result<ReferenceMinutes, Refusal> {
     let zone = store.zones.row(store.stations.row(stop.station).zone);
-    zone.periods.iter().find(|period| period.holds(day)).ok_or(Fault::NoZonePeriod.nowhere())
+    let day = day_of(time, service_day);
+    let period = zone.periods.iter().find(|period| period.holds(day)).ok_or(Fault::NoZonePeriod.nowhere())?;
+    Ok(period.reference(time))
+}
+
+/// The day on which a time falls, by its place in the count of all days: one
+/// after the year 9999 has no date.
+fn day_of(time: LocalMinutes, service_day: Day) -> u32 {
+    service_day.count().saturating_add_signed(time.0.div_euclid(MINUTES_IN_DAY))
 }

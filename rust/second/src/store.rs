@@ -124,8 +124,10 @@ pub struct Period {
 }
 
 impl Period {
-    pub fn holds(&self, day: Day) -> bool {
-        day.days_after(self.first_day) >= 0 && self.last_day.days_after(day) >= 0
+    /// A day by its place in the count of all days: none after the year 9999 is
+    /// held.
+    pub fn holds(&self, day: u32) -> bool {
+        self.first_day.count() <= day && day <= self.last_day.count()
     }
 
     /// The zone rule: local minutes less the signed hours.

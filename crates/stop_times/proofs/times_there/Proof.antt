@@ -1,37 +1,42 @@
--- `times_there` meets its contract: by the period where there is one, and 15 else. Assumes nothing.
-use mathlib.Core.Path.{sym, _∙_}
+-- `times_there` meets its contract: both times by themselves, and 15 for either. Assumes nothing.
+use mathlib.Core.Path.{refl}
 use borrow.Author.Needs.{needs}
-use borrow.Author.Tests.{not-true, not-false}
-use Rattle.stop_times.proofs.TimeLaws.{period-few, no-period, by-period}
+use Rattle.stop_times.proofs.TimeLaws.{no-arrival, no-departure, both-told}
 use Rattle.stop_times.proofs.times_there.Statement.{statement}
 use Rattle.stop_times.proofs.times_there.Tie as tie
 
-is-there-requires : tie.Need-is-there-requires
-is-there-requires c κs =
-    let s = c .before .before .before .before .before .before .before .before in
-    period-few (s .args .zones .now) (s .args .stations .now) _ _ _ (s .pre .3) (c .period-by-number .ensures) .0
+arrival-on-requires : tie.Need-arrival-on-requires
+arrival-on-requires c κs =
+    let q = c .before .before .before .before .before .before .before .pre in
+    (q .0, q .1, q .2, q .3, c .day-number .ensures .1)
+
+departure-on-requires : tie.Need-departure-on-requires
+departure-on-requires c κs = arrival-on-requires (c .before .before .before .before) κs
 
 returns : tie.Need-returns
-returns c R z e =
+returns c R z s =
     let p = c .before .before in
     let n = p .before in
-    no-period R _ _ _ _ _ _ _ (n .before .word-of .ensures) (n .day-number .ensures) (p .period-by-number .ensures R z e)
-    (sym (c .before .is-there .ensures) ∙ not-true _ (c .if1 .taken))
-
-times-by-requires : tie.Need-times-by-requires
-times-by-requires c κs =
-    let p = c .before .before in
-    let s = p .before .before .before .before .before .before .before .before in
-    let f = period-few (s .args .zones .now) (s .args .stations .now) _ _ _ (s .pre .3) (p .period-by-number .ensures) in
-    (s .pre .0, f .0, f .1)
+    no-arrival R _ _ _ _ (n .before .word-of .ensures) (n .day-number .ensures .0) _ _ (p .arrival-on .ensures .is R z s) refl (c .enum-told .given .1)
 
 returns-2 : tie.Need-returns-2
-returns-2 c R z e =
-    let t = c .before in
-    let p = t .before .before in
+returns-2 c R z s =
+    let u = c .before .before in
+    let k = u .before .before in
+    let p = k .before .before in
     let n = p .before in
-    by-period R _ _ _ _ _ _ _ (n .before .word-of .ensures) (n .day-number .ensures) (p .period-by-number .ensures R z e)
-    (sym (t .before .is-there .ensures) ∙ not-false _ (t .if1 .left)) _ (c .times-by .ensures .is)
+    no-departure R _ _ _ _ (n .before .word-of .ensures) (n .day-number .ensures .0) _ _ (p .arrival-on .ensures .is R z s)
+    (u .departure-on .ensures .is R z s) _ (k .arrival .given .1) (c .enum-told2 .given .1)
+
+returns-3 : tie.Need-returns-3
+returns-3 c R z s =
+    let l = c .before in
+    let u = l .before .before in
+    let k = u .before .before in
+    let p = k .before .before in
+    let n = p .before in
+    both-told R _ _ _ _ (n .before .word-of .ensures) (n .day-number .ensures .0) _ _ (p .arrival-on .ensures .is R z s)
+    (u .departure-on .ensures .is R z s) _ _ (k .arrival .given .1) (l .departure .given .1)
 
 pub times-there-spec : {M : Type 1} → statement M
 times-there-spec =
@@ -39,8 +44,12 @@ times-there-spec =
     (tie.spec
     (λ c κs. search needs)
     (λ c κs. search needs)
-    (λ c κs. search needs)
-    is-there-requires
+    arrival-on-requires
+    (λ c. search needs)
+    (λ c. search needs)
     returns
-    times-by-requires
-    returns-2)
+    departure-on-requires
+    (λ c. search needs)
+    (λ c. search needs)
+    returns-2
+    returns-3)

@@ -1,7 +1,8 @@
 -- `clock_time` meets its contract: a time's minutes are few, and the zone rule alone leaves the zone's clock. Assumes nothing.
 use mathlib.Core.Path.{sym, _∙_}
 use borrow.Author.Needs.{needs}
-use Rattle.zone_times.proofs.ClockLaws.{few-minutes, no-clock, on-clocks}
+use Rattle.clock.proofs.MinuteLaws.{minutes-small}
+use Rattle.zone_times.proofs.ClockLaws.{no-clock, on-clocks}
 use Rattle.zone_times.proofs.clock_time.Statement.{statement}
 use Rattle.zone_times.proofs.clock_time.Tie as tie
 
@@ -14,7 +15,7 @@ returns c =
 local-of-requires : tie.Need-local-of-requires
 local-of-requires c κs =
     let m = c .before .before .before in
-    few-minutes (m .before .args .time) _ (sym (m .minutes-of .ensures) ∙ c .before .minutes .given .1)
+    minutes-small (m .before .args .time) _ (sym (m .minutes-of .ensures) ∙ c .before .minutes .given .1)
 
 returns-2 : tie.Need-returns-2
 returns-2 c =

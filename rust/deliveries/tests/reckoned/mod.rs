@@ -149,15 +149,23 @@ impl<'a> Desk<'a> {
         rows.find(|row| field(row, 3, 9) == short_name).expect("a held station")
     }
 
-    /// The minutes to be added to local ones; 15 if no period holds the day.
-    fn shift(&self, station: Line, day: usize) -> Result<i32, u8> {
+    /// The date on which a time of a service day falls: the next for each time that
+    /// the hands have gone round. The last of the calendar has no next.
+    fn date_of(&self, day: usize, time: i32) -> Option<u64> {
+        let next = |date: u64| (date != 31_129_999).then(|| day_after(date));
+        (0..time / 1440).try_fold(self.dates[day], |date, _| next(date))
+    }
+
+    /// A station's time on the reference clock; 15 if no period holds the day on
+    /// which it falls.
+    fn reference(&self, station: Line, day: usize, time: i32) -> Result<i32, u8> {
         let zone = self.group(TIMEZONE, field(self.station(station), 22, 25)).expect("a held zone");
-        let date = in_order(self.dates[day]);
+        let date = in_order(self.date_of(day, time).ok_or(15)?);
         let order = |line: Line, first: usize| in_order(number(field(line, first, first + 7)));
         let holds = |line: &&Line| order(line, 5) <= date && date <= order(line, 14);
         let period = zone[1..].iter().find(holds).ok_or(15)?;
         let hours = 60 * number(field(period, 2, 3)) as i32;
-        Ok(if period[0] == b'+' { -hours } else { hours })
+        Ok(if period[0] == b'+' { time - hours } else { time + hours })
     }
 
     pub fn running_day(&self, service: u64, leg: u64, date: u64) -> Result<bool, u8> {
@@ -176,12 +184,14 @@ impl<'a> Desk<'a> {
     }
 
     pub fn stop_time(&'a self, service: u64, stop: u64, date: u64) -> Result<StopTime, u8> {
-        let stop = self.stop(self.block(service)?, stop)?;
-        let shift = self.shift(stop.station, self.day(date)?)?;
-        let Stop { station, arrival, departure } = stop;
+        let Stop { station, arrival, departure } = self.stop(self.block(service)?, stop)?;
+        let day = self.day(date)?;
         let local = Times { arrival: arrival.map(LocalMinutes), departure: departure.map(LocalMinutes) };
-        let reference = |time: Option<i32>| time.map(|time| ReferenceMinutes(time + shift));
-        let reference = Times { arrival: reference(arrival), departure: reference(departure) };
+        let reference = |time: Option<i32>| match time {
+            Some(time) => self.reference(station, day, time).map(|time| Some(ReferenceMinutes(time))),
+            None => Ok(None),
+        };
+        let reference = Times { arrival: reference(arrival)?, departure: reference(departure)? };
         Ok(StopTime { station: packed(station), local, reference })
     }
 
@@ -216,8 +226,8 @@ impl<'a> Desk<'a> {
         if let Some((_, reason)) = reasons.into_iter().find(|(holds, _)| *holds) {
             return Ok(no(reason));
         }
-        let arrival = a.stop.arrival.unwrap() + self.shift(a.stop.station, a.day)?;
-        let departure = b.stop.departure.unwrap() + self.shift(b.stop.station, b.day)?;
+        let arrival = self.reference(a.stop.station, a.day, a.stop.arrival.unwrap())?;
+        let departure = self.reference(b.stop.station, b.day, b.stop.departure.unwrap())?;
         let gap = departure - arrival + 1440 * (b.day as i32 - a.day as i32);
         let (source, needed) = self.needed(from, &a, to, &b);
         let verdict = match (source, needed) {

@@ -6,7 +6,7 @@ use super::{meaning, Explanation};
 use crate::dates;
 use crate::files::{latin, lines};
 use crate::records::{pack, unpack};
-use crate::tables::Tables;
+use crate::tables::{Station, Stop, Tables};
 
 /// What was asked, for the words of a refusal.
 #[derive(Clone, Copy)]
@@ -38,7 +38,10 @@ pub fn question(tables: &Tables, number: u64, asked: Asked) -> Explanation {
         (13, Asked::Leg { service, leg, .. }) => no_leg(tables, service, leg),
         (13, Asked::Stop { service, stop, .. }) => no_stop(tables, service, stop, 1, 0, ""),
         (14, Asked::Leg { date, .. } | Asked::Stop { date, .. }) => no_date(tables, date, ""),
-        (15, Asked::Stop { service, stop, date }) => no_period(tables, service, stop, date),
+        (15, Asked::Stop { service, stop, date }) => {
+            let side = Side { service, stop, date };
+            no_period(tables, [Timed::arrival(tables, side), Timed::departure(tables, side)])
+        }
         (_, Asked::Change { from, to }) => change(tables, number, from, to),
         (17, Asked::Station(code)) => no_station(tables, code),
         (16, _) => not_sound(),
@@ -107,13 +110,73 @@ fn no_date(tables: &Tables, date: u64, side: &str) -> Explanation {
     told(14, found, expected, "Ask for another day, or open the delivery that is valid then.".into())
 }
 
-fn no_period(tables: &Tables, service: u64, stop: u64, date: u64) -> Explanation {
-    let station = tables
-        .service(service)
-        .and_then(|held| held.stop(stop))
-        .and_then(|held| tables.station(held.station));
-    let (code, zone) = station.map_or((String::new(), 0), |station| (code(station.code), station.zone));
-    let periods = tables.periods(zone);
+/// A time of a service at a stop.
+struct Timed {
+    what: &'static str,
+    service: u64,
+    /// Minutes from 0000 of the service day.
+    minutes: i64,
+    service_day: u64,
+    station: Station,
+}
+
+impl Timed {
+    fn arrival(tables: &Tables, side: Side) -> Option<Timed> {
+        Timed::of(tables, side, "arrival", |stop| stop.arrival)
+    }
+
+    fn departure(tables: &Tables, side: Side) -> Option<Timed> {
+        Timed::of(tables, side, "departure", |stop| stop.departure)
+    }
+
+    /// None where the stop has no such time.
+    fn of(
+        tables: &Tables,
+        side: Side,
+        what: &'static str,
+        time: impl Fn(Stop) -> Option<u64>,
+    ) -> Option<Timed> {
+        let stop = tables.stop(side.service, side.stop)?;
+        let (minutes, station) = (dates::clock(time(stop)?), tables.station(stop.station)?);
+        Some(Timed { what, service: side.service, minutes, service_day: side.date, station })
+    }
+
+    /// Whether its zone has a period on the day of the time itself.
+    fn has_period(&self, tables: &Tables) -> bool {
+        let Some(day) = dates::date_of(self.minutes, self.service_day).and_then(dates::count) else {
+            return false;
+        };
+        let holds =
+            |first: u64, last: u64| dates::count(first) <= Some(day) && Some(day) <= dates::count(last);
+        tables.periods(self.station.zone).iter().any(|period| holds(period.first, period.last))
+    }
+
+    /// `06:30`, and where it falls on another day `06:30, which is 30:30 of service day 10 Dec 2016`.
+    fn written(&self) -> String {
+        let face = dates::face(self.minutes);
+        let hours = dates::hours(self.minutes);
+        match face == hours {
+            true => face,
+            false => format!("{face}, which is {hours} of service day {}", dates::date(self.service_day)),
+        }
+    }
+}
+
+/// The first of the times that are asked for whose day has no period.
+fn no_period(tables: &Tables, times: [Option<Timed>; 2]) -> Explanation {
+    let lacking = times.into_iter().flatten().find(|time| !time.has_period(tables));
+    let found = lacking.as_ref().map_or("a day".into(), |time| {
+        format!(
+            "{} at {}, in zone {:04}: {} of service {:08} at {}",
+            dates::day_of(time.minutes, time.service_day),
+            code(time.station.code),
+            time.station.zone,
+            time.what,
+            time.service,
+            time.written()
+        )
+    });
+    let periods = lacking.map_or(Vec::new(), |time| tables.periods(time.station.zone));
     let spans: Vec<String> = periods
         .iter()
         .map(|period| format!("{} to {}", dates::date(period.first), dates::date(period.last)))
@@ -122,7 +185,6 @@ fn no_period(tables: &Tables, service: u64, stop: u64, date: u64) -> Explanation
         0 => "a period of the zone".to_string(),
         _ => format!("a day in {}", spans.join(", or ")),
     };
-    let found = format!("{} at {code}, in zone {zone:04}", dates::date(date));
     told(15, found, expected, "TIMEZONE lacks a period: ask the supplier for it.".into())
 }
 
@@ -148,16 +210,7 @@ fn change(tables: &Tables, number: u64, from: Side, to: Side) -> Explanation {
             return no_date(tables, side.date, named);
         }
     }
-    let lacks = |side: Side| {
-        let station =
-            tables.service(side.service)?.stop(side.stop).and_then(|stop| tables.station(stop.station))?;
-        let day = dates::count(side.date)?;
-        let holds =
-            |first: u64, last: u64| dates::count(first) <= Some(day) && Some(day) <= dates::count(last);
-        (!tables.periods(station.zone).iter().any(|period| holds(period.first, period.last))).then_some(side)
-    };
-    let side = lacks(from).or_else(|| lacks(to)).unwrap_or(from);
-    no_period(tables, side.service, side.stop, side.date)
+    no_period(tables, [Timed::arrival(tables, from), Timed::departure(tables, to)])
 }
 
 fn no_station(tables: &Tables, asked: &str) -> Explanation {

@@ -1,0 +1,19 @@
+-- `arrival_from` meets its contract: the arrival on the day that the call's day is. Assumes nothing.
+use borrow.Author.Needs.{needs}
+use Rattle.changing.proofs.ZoneLaws.{told-on}
+use Rattle.changing.proofs.arrival_from.Statement.{statement}
+use Rattle.changing.proofs.arrival_from.Tie as tie
+
+arrival-on-requires : tie.Need-arrival-on-requires
+arrival-on-requires c κs =
+    let q = c .before .before .before .before .before .before .pre in
+    (q .1, q .0 .timezone, q .0 .stations, q .0 .few, c .number-on .ensures .1)
+
+returns : tie.Need-returns
+returns c =
+    let n = c .before in
+    let a = n .before .before .before .before .before .before .args in
+    told-on (a .delivery .now) (a .zones .now) (a .stations .now) (a .side .station) (a .call .day) _ _ (n .number-on .ensures .0) _ (c .arrival-on .ensures)
+
+pub arrival-from-spec : {M : Type 1} → statement M
+arrival-from-spec = tie.close (tie.spec (λ c κs. search needs) arrival-on-requires returns)
