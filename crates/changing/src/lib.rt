@@ -3,7 +3,6 @@
 // with places, a hint where keys stand, on which nothing rests. What the answer does not need is not looked for.
 use iff::DayOf;
 use iff::File;
-use iff::GroupFile;
 use iff::Reason;
 use iff::Test;
 use iff::words;
@@ -27,10 +26,10 @@ ghost use Rattle.iff.specs.declared.GroupFile.the-variants.{Footnote, Changes, 
 ghost use Rattle.iff.specs.declared.File.the-variants.{Delivery, Rows, Groups, Timetbls};
 ghost use Rattle.iff_desk.specs.Store.{numberOn};
 ghost use Rattle.iff_desk.specs.Changing.{callOf, gapBetween, coreChange, precheck as precheckOf, changeAfter};
-ghost use Rattle.store.specs.Found.{Stored, Stands, Inside};
+ghost use Rattle.store.specs.Found.{Stored, Inside};
 ghost use Rattle.zone_times.specs.Clocks.{FewMinutes};
 ghost use Rattle.needed_times.specs.Needed.{rowsFound};
-ghost use Rattle.changing.specs.Agree.{ZoneRows, NeedRows, RowsOf, ZonesReady, NeedReady, Ready, ToldOf};
+ghost use Rattle.changing.specs.Agree.{ZoneRows, NeedRows, RowsOf, ZonesReady, NeedReady, Ready};
 ghost use Rattle.changing.specs.Sides.{SideFor, sideOf, stopFound, hurdleOf, runHurdle, stopHurdle, laterHurdle, isSame};
 ghost use Rattle.changing.specs.Sides.{arrivalFrom, departureTo, verdictBy, judgedOn, laterChange, askedFrom, askedTo};
 
@@ -76,79 +75,6 @@ fn number_on(delivery: &[u64], used: usize, day: u64) -> u64
         DayOf::Day(first) => first + day,
         DayOf::NotADay => day,
     }
-}
-
-// When the service changed from arrives, and the one changed to departs: each by the period of that time's own day at its own station.
-fn arrival_from(
-    delivery: &[u64],
-    zones: &[u64],
-    stations: &[u64],
-    timetbls: &[u64],
-    places: &[u32],
-    counts: StoreCounts,
-    side: SideRows,
-    call: Call,
-) -> ToldTime
-    requires { ⌜
-        ZonesReady counts (now delivery) (now zones) (now stations)
-        × Stands (rowWidth Timetbls) (now timetbls) (side .row)
-        × (call .day < longest)
-        ⌝ }
-    ensures { λ r. ⌜
-        ToldOf (now (delivery .entry)) (now (zones .entry)) (now (stations .entry))
-        (λ R. arrivalFrom R (stopFound (now (timetbls .entry)) side) (side .station) call) r
-        ⌝ }
-{
-    let row = side.row;
-    let number = number_on(delivery, counts.delivery, call.day);
-    day_times::arrival_on(
-        timetbls,
-        row,
-        zones,
-        counts.timezone,
-        places,
-        stations,
-        counts.stations,
-        places,
-        side.station,
-        number,
-    )
-}
-
-fn departure_to(
-    delivery: &[u64],
-    zones: &[u64],
-    stations: &[u64],
-    timetbls: &[u64],
-    places: &[u32],
-    counts: StoreCounts,
-    side: SideRows,
-    call: Call,
-) -> ToldTime
-    requires { ⌜
-        ZonesReady counts (now delivery) (now zones) (now stations)
-        × Stands (rowWidth Timetbls) (now timetbls) (side .row)
-        × (call .day < longest)
-        ⌝ }
-    ensures { λ r. ⌜
-        ToldOf (now (delivery .entry)) (now (zones .entry)) (now (stations .entry))
-        (λ R. departureTo R (stopFound (now (timetbls .entry)) side) (side .station) call) r
-        ⌝ }
-{
-    let row = side.row;
-    let number = number_on(delivery, counts.delivery, call.day);
-    day_times::departure_on(
-        timetbls,
-        row,
-        zones,
-        counts.timezone,
-        places,
-        stations,
-        counts.stations,
-        places,
-        side.station,
-        number,
-    )
 }
 
 // THE GAP
@@ -318,7 +244,7 @@ fn weighed(
     )
 }
 
-// Where no No came before: 15 for either time, then the verdict.
+// Where no No came before: 15 for either time, each by the period of its own day at its own station, then the verdict.
 fn judged(
     delivery: &[u64],
     zones: &[u64],
@@ -352,27 +278,35 @@ fn judged(
         (departureTo R (stopFound (now (timetbls .entry)) b) (b .station) to) (a .station) from to)
         ⌝ }
 {
-    let ToldTime::Told(arrival) = arrival_from(
-        delivery,
-        zones,
-        stations,
+    let alight_number = number_on(delivery, counts.delivery, from.day);
+    let alight = a.row;
+    let ToldTime::Told(arrival) = day_times::arrival_on(
         timetbls,
+        alight,
+        zones,
+        counts.timezone,
         places,
-        counts,
-        a,
-        from,
+        stations,
+        counts.stations,
+        places,
+        a.station,
+        alight_number,
     ) else {
         return Change::ChangeRefused(Reason::NoPeriod);
     };
-    let ToldTime::Told(departure) = departure_to(
-        delivery,
-        zones,
-        stations,
+    let board_number = number_on(delivery, counts.delivery, to.day);
+    let board = b.row;
+    let ToldTime::Told(departure) = day_times::departure_on(
         timetbls,
+        board,
+        zones,
+        counts.timezone,
         places,
-        counts,
-        b,
-        to,
+        stations,
+        counts.stations,
+        places,
+        b.station,
+        board_number,
     ) else {
         return Change::ChangeRefused(Reason::NoPeriod);
     };

@@ -1,13 +1,13 @@
 -- "Periods of one zone do not overlap", in sound tables: one of them at most holds a day, so it is the zone's period on that day. Assumes nothing.
 use Prim.Native.Nat.{ℕ, zero, suc, _<_}
-use mathlib.Core.Path.{_≡_, refl, sym, _∙_}
+use mathlib.Core.Path.{_≡_, refl, ap, sym, _∙_}
 use mathlib.Core.List.{List, [], _∷_, _++_}
 use mathlib.Core.Bool.{Bool, true, false, _&&_, _||_, not, cond, true≢false}
 use native.Mathlib.Omega.{arith}
-use borrow.Author.Tests.{eqb-true, leb-true, le-leb, not-true}
+use borrow.Author.Tests.{leb-true, le-leb, not-true}
 use lib.Dec.{eqb, leb}
 use lib.ListN.{length, getD, drop}
-use Rattle.iff.specs.Bytes.{hash, plus, dash}
+use Rattle.iff.specs.Bytes.{hash}
 use Rattle.iff.specs.Lists.{Group, members, any, kept}
 use Rattle.iff.specs.Days.{dayOf, inTurn, within}
 use Rattle.iff.specs.Tables.{Row, tag}
@@ -17,9 +17,7 @@ use Rattle.iff.specs.declared.DayOf.the-variants.{Day, NotADay}
 use Rattle.iff.specs.declared.GroupFile.the-variants.{Timezone}
 use Rattle.iff.specs.declared.File.the-variants.{Groups}
 use Rattle.iff_rules.specs.Rows.{Context, firstOf}
-use Rattle.iff.specs.declared.GroupStand.{GroupStand}
-use Rattle.iff.specs.declared.GroupStand.the-variants.{Opening, Opened, Going}
-use Rattle.iff_rules.specs.Order.{mayFollow, mayEnd, groupStand, groupMoves, isPeriod}
+use Rattle.iff_rules.specs.Order.{mayEnd, groupStand}
 use Rattle.iff_rules.specs.Unique.{overlap, freshInGroup}
 use Rattle.iff_laws.specs.TruthLaws.{both}
 use Rattle.iff_desk.specs.Sound.{passes, followedBy, soundGroupRow, soundGroup, soundRows}
@@ -41,21 +39,6 @@ in-both NotADay b c d day p q = absurd (true≢false (sym p))
 shared : (day : ℕ) (x r : Row) → holds day x ≡ true → holds day r ≡ true → overlap x r ≡ true
 unfolding holds
 shared day x r p q = in-both (dayOf (periodFirst x)) (dayOf (periodLast x)) (dayOf (periodFirst r)) (dayOf (periodLast r)) day p q
-
--- a period's row has a tag
-tagged : (x : ℕ) → isPeriod x ≡ true → not (eqb x 0) ≡ true
-tagged x e = go (eqb x plus) (eqb x dash) refl refl e
-  where
-    go : (a b : Bool) → eqb x plus ≡ a → eqb x dash ≡ b → (a || b) ≡ true → not (eqb x 0) ≡ true
-    go true b p q e = rw (eqb-true x plus p)
-    go false true p q e = rw (eqb-true x dash q)
-    go false false p q e = absurd (true≢false (sym e))
-
-period-tagged : (s : GroupStand) (x : ℕ) → mayFollow Timezone (groupMoves s) x ≡ true → not (eqb x 0) ≡ true
-unfolding mayFollow
-period-tagged Opening x e = tagged x e
-period-tagged Opened x e = tagged x e
-period-tagged Going x e = tagged x e
 
 -- ROWS OF WHICH NO TWO OVERLAP
 abbrev Apart : List Row → Type 0
@@ -118,7 +101,7 @@ module _ (c : Context) where
   unfolding soundGroup passes
   group-apart g e =
       let p = both (passes (soundGroupRow c Timezone) followedBy [] (members g)) (mayEnd Timezone (groupStand (members g))) e .0 in
-      apart-on (g .top) [] (g .rest) (group-each c Timezone (λ r. eqb (tag r) hash ≡ false) (λ s r m h. period-follows s (tag r) m) g e)
+      apart-on (g .top) [] (g .rest) (group-each c Timezone (λ r. eqb (tag r) hash ≡ false) (λ s r m h. period-follows hash refl refl s (tag r) m) g e)
       (both (soundGroupRow c Timezone [] (g .top)) (passes (soundGroupRow c Timezone) followedBy (followedBy [] (g .top)) (g .rest)) p .1) .1
 
   -- the period that holds a day, wherever it stands among the zone's, is the zone's period on that day
@@ -134,4 +117,4 @@ module _ (c : Context) where
       → isThere (getD (drop 1 (groupOf zone rs)) i noRow) ≡ true
   period-there d rs e zone i h =
       each-at (λ r. isThere r ≡ true) (drop 1 (groupOf zone rs))
-      (key-each c Timezone (λ r. isThere r ≡ true) (λ s r m k. period-tagged s (tag r) m) d rs e zone) i h
+      (key-each c Timezone (λ r. isThere r ≡ true) (λ s r m k. ap not (period-follows 0 refl refl s (tag r) m)) d rs e zone) i h

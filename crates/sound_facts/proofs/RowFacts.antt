@@ -237,20 +237,21 @@ module _ (c : Context) (f : GroupFile) (Q : Row → Type 0) (q : Behind c f Q) w
   pub key-each : (d : Row) (rs : List Row) → soundRows c d (Groups f) rs ≡ true → (key : ℕ) → Each Q (drop 1 (groupOf key rs))
   key-each d rs e key = key-group c f (Each Q) tt group-each d rs e key
 
--- a period's row, and an exception's, opens no group
-no-hash : (x : ℕ) → isPeriod x ≡ true → eqb x hash ≡ false
-no-hash x e = go (eqb x plus) (eqb x dash) refl refl e
-  where
-    go : (a b : Bool) → eqb x plus ≡ a → eqb x dash ≡ b → (a || b) ≡ true → eqb x hash ≡ false
-    go true b p q e = rw (eqb-true x plus p)
-    go false true p q e = rw (eqb-true x dash q)
-    go false false p q e = absurd (true≢false (sym e))
+-- a period's row has no other tag than its two letters, and an exception's opens no group
+module _ (k : ℕ) (n : eqb plus k ≡ false) (m : eqb dash k ≡ false) where
+  no-other : (x : ℕ) → isPeriod x ≡ true → eqb x k ≡ false
+  no-other x e = go (eqb x plus) (eqb x dash) refl refl e
+    where
+      go : (a b : Bool) → eqb x plus ≡ a → eqb x dash ≡ b → (a || b) ≡ true → eqb x k ≡ false
+      go true b p q e = rw (eqb-true x plus p, n)
+      go false true p q e = rw (eqb-true x dash q, m)
+      go false false p q e = absurd (true≢false (sym e))
 
-pub period-follows : (s : GroupStand) (x : ℕ) → mayFollow Timezone (groupMoves s) x ≡ true → eqb x hash ≡ false
-unfolding mayFollow
-period-follows Opening x e = no-hash x e
-period-follows Opened x e = no-hash x e
-period-follows Going x e = no-hash x e
+  pub period-follows : (s : GroupStand) (x : ℕ) → mayFollow Timezone (groupMoves s) x ≡ true → eqb x k ≡ false
+  unfolding mayFollow
+  period-follows Opening x e = no-other x e
+  period-follows Opened x e = no-other x e
+  period-follows Going x e = no-other x e
 
 exception-follows : (s : GroupStand) (x : ℕ) → mayFollow Xchanges (groupMoves s) x ≡ true → eqb x hash ≡ false
 unfolding mayFollow
@@ -262,7 +263,7 @@ pub period-few : (c : Context) (d : Row) (rs : List Row) → soundRows c d (Grou
 unfolding periodOf
 period-few c d rs e zone day =
     first-kept (λ r. hours r < 100) (omega arith) (holds day) (drop 1 (groupOf zone rs))
-    (key-each c Timezone (λ r. hours r < 100) (λ s r m h. period-hours (c .form) r (period-follows s (tag r) m) h) d rs e zone)
+    (key-each c Timezone (λ r. hours r < 100) (λ s r m h. period-hours (c .form) r (period-follows hash refl refl s (tag r) m) h) d rs e zone)
 
 pub exceptions-few : (c : Context) (d : Row) (rs : List Row) → soundRows c d (Groups Xchanges) rs ≡ true → (station : ℕ)
     → Each (λ r. exceptionTime r < 1000) (drop 1 (groupOf station rs))

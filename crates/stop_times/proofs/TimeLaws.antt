@@ -1,12 +1,9 @@
 -- The day of a question, and its answer by the times of that day. Assumes nothing.
-use Prim.Native.Nat.{ℕ, _+_}
+use Prim.Native.Nat.{ℕ}
 use mathlib.Core.Path.{_≡_, refl, ap, sym, _∙_}
 use mathlib.Core.List.{List, [], _∷_}
 use mathlib.Core.Bool.{Bool, true, false, not, true≢false}
-use native.Mathlib.Omega.{arith}
-use borrow.Author.Tests.{leb-true}
-use lib.Dec.{leb}
-use Rattle.iff.specs.Days.{dayOf, within, since, inPeriod, dayIn}
+use Rattle.iff.specs.Days.{dayOf}
 use Rattle.iff.specs.Files.{PerFile}
 use Rattle.iff.specs.Refusals.{firstTest, unless, passing}
 use Rattle.iff.specs.Tables.{Row}
@@ -15,10 +12,8 @@ use Rattle.iff.specs.declared.Reason.{Reason}
 use Rattle.iff.specs.declared.Reason.the-variants.{NoService, NoStop, NoDate, NoPeriod}
 use Rattle.iff.specs.declared.Test.{Test}
 use Rattle.iff.specs.declared.Test.the-variants.{Passes, Fails}
-use Rattle.iff.specs.declared.DayOf.{DayOf}
-use Rattle.iff.specs.declared.DayOf.the-variants.{Day, NotADay}
-use Rattle.iff_laws.specs.TruthLaws.{both}
-use Rattle.iff_desk.specs.Store.{serviceRows, isEmpty, stopAt, firstDay, lastDay, isValid, dayOn, dayNumber, numberOn}
+use Rattle.iff_laws.specs.DateLaws.{day-counted}
+use Rattle.iff_desk.specs.Store.{serviceRows, isEmpty, stopAt, isValid, dayOn, dayNumber, numberOn}
 use Rattle.iff_desk.specs.Running.{asked}
 use Rattle.iff_desk.specs.Stops.{arrivalOf, departureOf, toldOn, isStopNumber, stopTimeIn}
 use Rattle.iff_desk.specs.declared.TimeOf.{TimeOf}
@@ -29,15 +24,8 @@ use Rattle.iff_desk.specs.declared.StopTime.the-variants.{Times, StopTimeRefuse
 use Rattle.stop_times.specs.Times.{timesThere}
 
 -- A DAY OF VALIDITY, counted from the first day and by its number
-day-counted : (first date last : DayOf) → within first date last ≡ true → dayNumber first + since first date ≡ dayNumber date
-day-counted (Day a) (Day d) (Day b) e = omega (arith, leb-true a d (both (leb a d) (leb d b) e .0))
-day-counted (Day a) (Day d) NotADay e = absurd (true≢false (sym e))
-day-counted (Day a) NotADay b e = absurd (true≢false (sym e))
-day-counted NotADay d b e = absurd (true≢false (sym e))
-
 number-on : (R : PerFile (List Row)) (date : ℕ) → isValid R date ≡ true → numberOn R (dayOn R date) ≡ dayNumber (dayOf date)
-unfolding inPeriod dayIn
-number-on R date e = day-counted (dayOf (firstDay R)) (dayOf date) (dayOf (lastDay R)) e
+number-on R date e = sym (ap dayNumber (day-counted R date e))
 
 -- a question that is not refused has a date of validity
 valid-asked : (a b v : Bool) → Passes ≡ firstTest (unless a NoService ∷ unless b NoStop ∷ unless v NoDate ∷ []) → v ≡ true
