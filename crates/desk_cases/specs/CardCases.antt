@@ -53,14 +53,22 @@ places =
     claim "cm*m" (rank (keys co mo) (keys anyCo mo)) 13 ∷
     claim "cmc*" (rank (keys co mo) (keys co anyMo)) 14 ∷
     claim "cmcm" (rank (keys co mo) (keys co mo)) 15 ∷
-    -- a wildcard has the columns of its key: `*` of a mode is no wildcard of a company
-    claim "the other key's wildcard is a name" (rank (keys anyMo anyCo) (keys anyMo anyCo)) 15 ∷
-    claim "0 is a name" (rank (keys 0 anyMo) (keys anyCo 0)) 9 ∷
     []
 
 pub places-hold : Hold places
 unfolding opened
-places-hold = (refl, (refl, (refl, (refl, (refl, (refl, (refl, (refl, (refl, (refl, (refl, (refl, (refl, (refl, (refl, (refl, (refl, (refl, (refl, tt)))))))))))))))))))
+places-hold = (refl, (refl, (refl, (refl, (refl, (refl, (refl, (refl, (refl, (refl, (refl, (refl, (refl, (refl, (refl, (refl, (refl, tt)))))))))))))))))
+
+-- a key is named where it is not the wildcard of its own columns: `*` of a mode is no wildcard of a company
+abbrev pub names : List Claim
+names =
+    claim "the other key's wildcard" (rank (keys anyMo anyCo) (keys anyMo anyCo)) 15 ∷
+    claim "0" (rank (keys 0 anyMo) (keys anyCo 0)) 9 ∷
+    []
+
+pub names-hold : Hold names
+unfolding opened
+names-hold = (refl, (refl, tt))
 
 -- each beats the one before it on the card, with the smaller time, whichever stands first
 abbrev pub inTurn : List Claim
