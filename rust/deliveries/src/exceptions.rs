@@ -2,26 +2,35 @@
 //! others. Counted so that a comparison is known to meet every place on the desk's
 //! card, and both ways in which one exception beats another.
 
-use std::cmp::Ordering;
-
 use crate::calendar;
 use crate::place::*;
 use crate::questions::{Question, Side};
-use crate::tables::{rows_in_use, Tables, ANY_COMPANY, ANY_MODE, GROUP};
+use crate::tables::{is_stop, rows_in_use, Tables, ANY_COMPANY, ANY_MODE, GROUP};
 
-/// An exception that applies. Those with more named on the from side come later,
-/// companies before modes; of equal ones the larger time.
-#[derive(Clone, Copy, PartialEq, Eq, PartialOrd, Ord)]
-struct Applied {
-    /// Which of from company, from mode, to company and to mode are named.
-    named: [bool; 4],
-    time: u64,
+/// An exception that applies to a change.
+#[derive(Clone, Copy, Debug, PartialEq, Eq)]
+pub struct Applied {
+    /// Its line in XCHANGES.
+    pub line: u64,
+    /// From company, from mode, to company, to mode, as the table has them.
+    pub keys: [u64; 4],
+    pub time: u64,
+    pub footnote: u64,
 }
 
+/// Which keys are named, the from company first, and the time: the larger counts.
+type Weight = ([bool; 4], u64);
+
 impl Applied {
-    fn pattern(&self) -> String {
-        let letters = self.named.iter().zip("cmcm".chars());
-        letters.map(|(&named, letter)| if named { letter } else { '*' }).collect()
+    fn weight(&self) -> Weight {
+        let any = [ANY_COMPANY, ANY_MODE, ANY_COMPANY, ANY_MODE];
+        (std::array::from_fn(|key| self.keys[key] != any[key]), self.time)
+    }
+
+    /// `c` and `m` for what is named, `*` for what is not.
+    pub fn pattern(&self) -> String {
+        let letters = self.weight().0.into_iter().zip("cmcm".chars());
+        letters.map(|(named, letter)| if named { letter } else { '*' }).collect()
     }
 }
 
@@ -30,57 +39,60 @@ impl Applied {
 pub fn told(tables: &Tables, question: &Question, needed: u64) -> Vec<String> {
     let Question::Change { from, to } = *question else { return Vec::new() };
     let applied = applied(tables, from, to).unwrap_or_default();
-    let Some(best) = applied.iter().max() else { return vec!["no exception applies".into()] };
+    let Some(best) = applied.iter().max_by_key(|applied| applied.weight()) else {
+        return vec!["no exception applies".into()];
+    };
     if best.time != needed {
         return vec!["another time than the best exception's".into()];
     }
-    vec![format!("{} counts", best.pattern()), beats(&applied, best).into()]
+    let weights: Vec<Weight> = applied.iter().map(Applied::weight).collect();
+    vec![format!("{} counts", best.pattern()), beats(&weights, best.weight()).into()]
 }
 
 /// What tells the best from the others.
-fn beats(applied: &[Applied], best: &Applied) -> &'static str {
-    let second = applied.iter().filter(|other| *other != best).max();
-    let equal = applied.iter().filter(|other| *other == best).count() > 1;
+fn beats(applied: &[Weight], best: Weight) -> &'static str {
+    let place_of = |wanted: Weight| applied.iter().position(|&weight| weight == wanted);
+    let second = applied.iter().copied().filter(|&weight| weight != best).max();
+    let largest = applied.iter().map(|&(_, time)| time).max();
     match second {
-        _ if equal => "the same place and the same time",
-        None => "the only one that applies",
-        Some(second) if second.named == best.named => {
-            let is_first = applied.iter().position(|other| other == best)
-                < applied.iter().position(|other| other == second);
-            if is_first {
-                "the same place, the larger time before"
-            } else {
-                "the same place, the larger time after"
-            }
+        _ if applied.iter().filter(|&&weight| weight == best).count() > 1 => {
+            "the same place and the same time"
         }
-        Some(_) => match applied.iter().map(|other| other.time).max().cmp(&Some(best.time)) {
-            Ordering::Greater => "a higher place with a smaller time",
-            _ => "a higher place with a time as large",
-        },
+        None => "the only one that applies",
+        Some(second) if second.0 == best.0 && place_of(best) < place_of(second) => {
+            "the same place, the larger time before"
+        }
+        Some(second) if second.0 == best.0 => "the same place, the larger time after",
+        Some(_) if largest > Some(best.1) => "a higher place with a smaller time",
+        Some(_) => "a higher place with a time as large",
     }
 }
 
-/// The exceptions that apply, in the order of the table.
-fn applied(tables: &Tables, from: Side, to: Side) -> Option<Vec<Applied>> {
+/// The exceptions that apply to a change of sound tables, in the order of the file.
+pub fn applied(tables: &Tables, from: Side, to: Side) -> Option<Vec<Applied>> {
     let (left, boarded) = (from.stop.checked_sub(1)?, to.stop);
-    let keys = [
+    let ridden = [
         on_leg(tables, from.service, b'%', left, 3)?,
         on_leg(tables, from.service, b'&', left, 2)?,
         on_leg(tables, to.service, b'%', boarded, 3)?,
         on_leg(tables, to.service, b'&', boarded, 2)?,
     ];
-    let mut rows = rows_in_use(tables, XCHANGES).skip(1);
+    let mut rows = rows_in_use(tables, XCHANGES).zip(1..).skip(1);
     let station = station_of(tables, from)?;
-    rows.find(|row| row[0] == GROUP && row[1] == station)?;
+    rows.find(|(row, _)| row[0] == GROUP && row[1] == station)?;
     let first_day = calendar::counted(rows_in_use(tables, DELIVERY).next()?[2]);
     let day = usize::try_from(calendar::counted(from.date) - first_day).ok()?;
-    let any = [ANY_COMPANY, ANY_MODE, ANY_COMPANY, ANY_MODE];
-    let applied = rows.take_while(|row| row[0] != GROUP).filter_map(|row| {
-        let named: [bool; 4] = std::array::from_fn(|key| row[1 + key] != any[key]);
-        let fits = (0..4).all(|key| !named[key] || row[1 + key] == keys[key]);
-        (fits && is_marked(tables, row[6], day)).then_some(Applied { named, time: row[5] })
+    let under = rows.take_while(|(row, _)| row[0] != GROUP).map(|(row, line)| Applied {
+        line,
+        keys: [row[1], row[2], row[3], row[4]],
+        time: row[5],
+        footnote: row[6],
     });
-    Some(applied.collect())
+    let fits = |applied: &Applied| {
+        let (named, _) = applied.weight();
+        (0..4).all(|key| !named[key] || applied.keys[key] == ridden[key])
+    };
+    Some(under.filter(|applied| fits(applied) && is_marked(tables, applied.footnote, day)).collect())
 }
 
 fn block(tables: &Tables, service: u64) -> impl Iterator<Item = &[u64]> {
@@ -97,7 +109,7 @@ fn on_leg(tables: &Tables, service: u64, letter: u8, leg: u64, first: usize) -> 
 }
 
 fn station_of(tables: &Tables, side: Side) -> Option<u64> {
-    let mut stops = block(tables, side.service).filter(|row| crate::tables::is_stop(row));
+    let mut stops = block(tables, side.service).filter(|row| is_stop(row));
     stops.nth(usize::try_from(side.stop.checked_sub(1)?).ok()?).map(|row| row[1])
 }
 

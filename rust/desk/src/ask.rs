@@ -10,6 +10,7 @@ use proved::{Refusal, Side};
 use serde::Serialize;
 
 use crate::answers::{json, Accepted, Changed, Error, Refused, Runs, Stop, TextLines};
+use crate::card;
 use crate::commands::{name_of, read_block};
 use crate::dates::number_of_any_size;
 use crate::files::latin;
@@ -43,7 +44,16 @@ impl Question<'_> {
             Question::Stop { service, stop, date } => {
                 json(&Stop::of(&proved::stop_time(tables.lent(), service, stop, date)?, date))
             }
-            Question::Change { from, to } => json(&Changed::of(&proved::change(tables.lent(), from, to)?)),
+            Question::Change { from, to } => {
+                let change = proved::change(tables.lent(), from, to)?;
+                let changed = Changed::of(&change);
+                json(&match card::needed_by_exception(&change) {
+                    None => changed,
+                    Some(needed) => {
+                        changed.reasoned(card::reasoned(card::applied(tables, from, to), needed).as_ref())
+                    }
+                })
+            }
             Question::Name(_) | Question::Lines(_) | Question::Amend { .. } => String::new(),
         })
     }

@@ -192,6 +192,14 @@ Example:
         /// The file with the block
         file: PathBuf,
     },
+    /// Show the desk's card: which exception of XCHANGES counts
+    #[command(after_help = "\
+Sixteen patterns with their places, from all wildcards to none: of the exceptions that apply to
+a change, the one with the highest place counts. `change` tells the places of those that apply.
+
+Example:
+  calyxcabin card")]
+    Card,
     /// Answer questions from standard input, one JSON object a line
     #[command(after_help = "\
 Questions, dates as DDMMYYYY:

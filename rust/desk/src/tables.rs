@@ -185,12 +185,26 @@ impl Tables {
 
     /// The vector of a footnote: whether each day, from the first, has 1.
     pub fn days_of(&self, footnote: u64, days: usize) -> Option<Vec<bool>> {
-        let mut rows = self.rows(FOOTNOTE).skip(1);
-        rows.find(|row| row[0] == u64::from(b'#') && row[1] == footnote)?;
-        let vector = rows.next()?;
-        let has = |day: usize| vector.get(1 + day / 64).is_some_and(|word| word >> (day % 64) & 1 == 1);
-        Some((0..days).map(has).collect())
+        let vector = self.vector(FOOTNOTE, footnote)?;
+        Some((0..days).map(|day| has(vector, day)).collect())
     }
+
+    /// Whether a footnote of FOOTNOTE or XFOOTNOTE has 1 on a day, counted from the
+    /// first.
+    pub fn is_marked(&self, file: usize, footnote: u64, day: usize) -> bool {
+        self.vector(file, footnote).is_some_and(|vector| has(vector, day))
+    }
+
+    fn vector(&self, file: usize, footnote: u64) -> Option<&[u64]> {
+        let mut rows = self.rows(file).skip(1);
+        rows.find(|row| row[0] == u64::from(b'#') && row[1] == footnote)?;
+        rows.next()
+    }
+}
+
+/// Whether a vector's row has 1 on a day.
+fn has(vector: &[u64], day: usize) -> bool {
+    vector.get(1 + day / 64).is_some_and(|word| word >> (day % 64) & 1 == 1)
 }
 
 impl<'a> Service<'a> {
