@@ -211,7 +211,7 @@ pub fn reasoned(applied: Option<Vec<Exception>>, needed: u64) -> Option<Reasoned
     let mut exceptions = applied?;
     exceptions.sort_by_key(|exception| (Reverse(exception.place), Reverse(exception.time), exception.line));
     let best = exceptions.first().filter(|best| best.time == needed)?;
-    let because = match exceptions.iter().filter(|other| other.place == best.place).next_back() {
+    let because = match exceptions.iter().rfind(|other| other.place == best.place) {
         _ if exceptions.len() == 1 => Because::Only,
         Some(last) if last.line == best.line => Because::HigherPlace,
         Some(last) if last.time == best.time => Because::SameTime,

@@ -174,7 +174,8 @@ Of the exceptions that apply to a change, the one with the highest place counts,
     run(["card", "store"]).is(2, "unexpected");
 }
 
-/// docs/CARD.md has the same sixteen lines, and each of them once.
+/// docs/CARD.md has the same sixteen lines, each of them once, and a change as it is
+/// answered.
 #[test]
 fn the_card_in_the_documents_is_the_programs() {
     let page = Path::new(env!("CARGO_MANIFEST_DIR")).join("../../docs/CARD.md");
@@ -192,6 +193,10 @@ fn the_card_in_the_documents_is_the_programs() {
     let shown = lines_of(&run(["card"]).out);
     assert_eq!(shown.len(), 16);
     assert_eq!(lines_of(&page), shown);
+    // The supplier's question is answered as the page has it.
+    let folder = folder("supplier");
+    let said = line("change {} 2 2 2015-12-14 6 1 2015-12-16", &[&opened(&folder)]);
+    assert!(page.contains(&said.out), "{said:#?}");
 }
 
 /// From the boat (100, SHIP) to a Sprinter (200, SPR) two exceptions apply.
