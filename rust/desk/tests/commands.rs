@@ -171,7 +171,7 @@ Of the exceptions that apply to a change, the one with the highest place counts,
         assert_eq!(*entry, expected);
     }
     assert!(told["rule"].as_str().unwrap().contains("highest place counts"));
-    run(["card", "store"]).is(2, "unexpected");
+    run(["card", "store"]).is(2, "Usage: calyxcabin card");
 }
 
 /// docs/CARD.md has the same sixteen lines, each of them once, and a change as it is

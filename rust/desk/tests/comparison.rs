@@ -12,8 +12,8 @@ use deliveries::place::{STATIONS, TIMETBLS};
 use deliveries::questions::Side;
 use deliveries::tables::ANY_COMPANY;
 use deliveries::{
-    amendment, calendar, exceptions, folder as write_folder, of_each_sort, question_on_tables, Amendment,
-    Question, Rng, World,
+    amendment, calendar, excepted, exceptions, folder as write_folder, of_each_sort, question_on_tables,
+    Amendment, Question, Rng, World,
 };
 use second::encode::width;
 use second::questions::{Change, Reason, Source, Verdict};
@@ -241,7 +241,8 @@ fn ask_answers_as_the_second_program_does() {
     let folder = folder("comparison");
     let mut met: BTreeMap<String, usize> = BTreeMap::new();
     for seed in 0..DELIVERIES {
-        let (world, case) = of_each_sort(seed);
+        // Exceptions beat one another in more ways than the other sorts meet.
+        let (world, case) = if seed % 3 == 0 { excepted(seed) } else { of_each_sort(seed) };
         let delivery = folder.join(format!("delivery {seed}"));
         write_folder::write(&case.texts(), &delivery).unwrap();
         let mut rng = Rng::new(seed ^ 0xA5C);
@@ -264,6 +265,7 @@ fn ask_answers_as_the_second_program_does() {
             let first = expected.as_object().unwrap().iter().next().unwrap();
             let kind = match first.0.as_str() {
                 "refused" => format!("refused {}", first.1["number"]),
+                "because" => "change".to_string(),
                 key => key.to_string(),
             };
             *met.entry(format!("{} {kind}", line.split(' ').next().unwrap())).or_default() += 1;
