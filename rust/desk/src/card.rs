@@ -271,8 +271,8 @@ pub fn text(reasoned: Option<&Reasoned>, station: u64) -> String {
 
 fn cannot(station: u64) -> String {
     format!(
-        "cannot be told: the exceptions that the program finds for {} do not come to this time. The answer stands; \
-         tell whoever keeps the program.",
+        "the program cannot explain this time: the exceptions that it finds for {} do not come to it. The answer \
+         stands; tell whoever keeps the program.",
         code(station)
     )
 }
@@ -397,7 +397,7 @@ mod tests {
     /// Tables that do not fit an answer give no reason for it.
     #[test]
     fn no_false_reason() {
-        let cannot = "  why     cannot be told: the exceptions that the program finds for pier do not come to this time. The answer stands; tell whoever keeps the program.\n";
+        let cannot = "  why     the program cannot explain this time: the exceptions that it finds for pier do not come to it. The answer stands; tell whoever keeps the program.\n";
         let tables = tables("-*  ,IC  ,*  ,*   ,012,00001\n-*  ,*   ,*  ,*   ,020,00001\n");
         let found = || applied(&tables, FROM, TO);
         assert!(reasoned(found(), 12).is_some());

@@ -73,6 +73,8 @@ Example:
     #[command(after_help = "\
 The first service is left at its stop (2 or later) on its date, the second is boarded at its
 stop (any but the last) on its date. A date is that of the service's first departure.
+Where the needed time is that of XCHANGES, the exceptions that apply are shown with their
+places on the desk's card (calyxcabin card), and why one of them counts.
 Exit status: 0 Yes, 3 No, 4 Unsettled, 1 refused.
 
 Example:
