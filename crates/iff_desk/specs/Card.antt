@@ -46,11 +46,12 @@ card =
     pattern co mo co mo ∷
     []
 
--- an entry has this very pattern
+-- both are named, or neither
 abbrev pub alike : Bool → Bool → Bool
 alike true b = b
 alike false b = not b
 
+-- an entry has this very pattern
 abbrev pub samePattern : Pattern → Pattern → Bool
 samePattern p e =
     alike (p .fromCompany) (e .fromCompany) && (alike (p .fromMode) (e .fromMode)
@@ -62,4 +63,4 @@ placeOf p = position (samePattern p) card
 
 -- a key is named where it is not the wildcard
 abbrev pub isNamed : ℕ → ℕ → Bool
-isNamed any key = not (eqb key any)
+isNamed wildcard key = not (eqb key wildcard)

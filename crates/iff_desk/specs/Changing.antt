@@ -103,6 +103,12 @@ best b (r ∷ rs) = best (better b (rank (fromKeys r) (toKeys r)) (exceptionTime
 unfoldable pub bestAt : PerFile (List Row) → ℕ → Riding → Riding → ℕ → Best
 bestAt R station a b d = best NoBest (kept (applies R a b d) (drop 1 (groupOf station (R .xchanges))))
 
+-- the best row of XCHANGES for a change, at the station of A's stop
+abbrev pub bestBetween : PerFile (List Row) → Call → Call → Best
+bestBetween R A B =
+    let aRows = serviceRows R (A .service) in
+    bestAt R (named (stopAt aRows (A .stop))) (ridingOn aRows (A .stop - 1)) (ridingOn (serviceRows R (B .service)) (B .stop)) (A .day)
+
 -- THE VERDICT on a gap
 -- "Gap below needed: No. Otherwise Unsettled if .., else Yes."
 unfoldable pub settled : ℤ → Source → ℕ → Bool → Change
@@ -158,12 +164,6 @@ abbrev pub afterHurdles : Hurdle → Test → Change → Change
 afterHurdles (stop e) t c = NoBefore e
 afterHurdles clear (Fails r) c = ChangeRefused r
 afterHurdles clear Passes c = c
-
--- the best row of XCHANGES for a change, at the station of A's stop
-abbrev pub bestBetween : PerFile (List Row) → Call → Call → Best
-bestBetween R A B =
-    let aRows = serviceRows R (A .service) in
-    bestAt R (named (stopAt aRows (A .stop))) (ridingOn aRows (A .stop - 1)) (ridingOn (serviceRows R (B .service)) (B .stop)) (A .day)
 
 -- the core: services that are there, stops and days that are right, on sound tables; by A's arrival, B's departure and the best row of XCHANGES
 unfoldable pub coreBy : PerFile (List Row) → Call → Call → ToldTime → ToldTime → Best → Change

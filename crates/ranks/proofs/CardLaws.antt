@@ -1,5 +1,4 @@
 -- An exception's place on the card, by what is known of its four keys. Assumes nothing.
-use Prim.Native.Nat.{ℕ}
 use mathlib.Core.Path.{_≡_}
 use mathlib.Core.Bool.{Bool}
 use Rattle.iff_rules.specs.References.{anyCompany, anyMode}
