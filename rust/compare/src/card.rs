@@ -7,14 +7,11 @@ use std::io;
 use compare::answers::{Answer, Lent};
 use compare::{by_second, lengths_of};
 use deliveries::questions::Side;
+use deliveries::tables::{ANY_COMPANY, ANY_MODE};
 use deliveries::{Case, Question, Rng, FILES};
 use proved::{Change, Keys, Source, Verdict};
 
 use crate::comparison::{shown, Comparison};
-
-/// `*` and blanks, packed: the wildcards of a company and of a mode.
-const ANY_COMPANY: u64 = 0x2a_20_20;
-const ANY_MODE: u64 = 0x2a_20_20_20;
 
 /// Companies that are named: at the limits of their three digits, beyond them, and
 /// such as a careless look takes for the wildcard.
@@ -98,8 +95,8 @@ fn keys([from_company, from_mode, to_company, to_mode]: [bool; 4], names: [u64; 
     }
 }
 
-/// Every company with every mode on each side, each two sides together once, and
-/// any words.
+/// Every company with every mode four times on the from side, each beside a to side
+/// by chance; and any words.
 fn many_names() -> impl Iterator<Item = [u64; 4]> {
     let sides = COMPANIES.into_iter().flat_map(|company| MODES.into_iter().map(move |mode| [company, mode]));
     let sides: Vec<[u64; 2]> = sides.collect();

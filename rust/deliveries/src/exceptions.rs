@@ -51,7 +51,7 @@ pub fn told(tables: &Tables, question: &Question, needed: u64) -> Vec<String> {
 
 /// What tells the best from the others.
 fn beats(applied: &[Weight], best: Weight) -> &'static str {
-    let place_of = |wanted: Weight| applied.iter().position(|&weight| weight == wanted);
+    let position_of = |wanted: Weight| applied.iter().position(|&weight| weight == wanted);
     let second = applied.iter().copied().filter(|&weight| weight != best).max();
     let largest = applied.iter().map(|&(_, time)| time).max();
     match second {
@@ -59,7 +59,7 @@ fn beats(applied: &[Weight], best: Weight) -> &'static str {
             "the same place and the same time"
         }
         None => "the only one that applies",
-        Some(second) if second.0 == best.0 && place_of(best) < place_of(second) => {
+        Some(second) if second.0 == best.0 && position_of(best) < position_of(second) => {
             "the same place, the larger time before"
         }
         Some(second) if second.0 == best.0 => "the same place, the larger time after",
