@@ -3,7 +3,6 @@
 use proved::{Answer, Change, Reason, Refusal, Running, Source, StopTimes, Time, Verdict};
 use serde_derive::Serialize;
 
-use crate::card::{self, Reasoned};
 use crate::dates;
 use crate::explain::Explanation;
 use crate::files::{latin, NAMES};
@@ -249,12 +248,6 @@ impl Changed {
             exceptions: None,
             because: None,
         }
-    }
-
-    /// With the reason for a needed time of XCHANGES.
-    pub fn reasoned(self, reasoned: Option<&Reasoned>) -> Changed {
-        let (exceptions, because) = card::answer(reasoned);
-        Changed { exceptions, because: Some(because), ..self }
     }
 }
 

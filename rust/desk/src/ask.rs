@@ -9,7 +9,7 @@ use std::thread::{self, Builder};
 use proved::{Refusal, Side};
 use serde::Serialize;
 
-use crate::answers::{json, Accepted, Changed, Error, Refused, Runs, Stop, TextLines};
+use crate::answers::{json, Accepted, Error, Refused, Runs, Stop, TextLines};
 use crate::card;
 use crate::commands::{name_of, read_block};
 use crate::dates::number_of_any_size;
@@ -46,13 +46,9 @@ impl Question<'_> {
             }
             Question::Change { from, to } => {
                 let change = proved::change(tables.lent(), from, to)?;
-                let changed = Changed::of(&change);
-                json(&match card::needed_by_exception(&change) {
-                    None => changed,
-                    Some(needed) => {
-                        changed.reasoned(card::reasoned(card::applied(tables, from, to), needed).as_ref())
-                    }
-                })
+                let services = || [from, to].map(|side| tables.service(side.service));
+                let reasoned = card::reasoned(&change, || card::applied(tables, services(), from, to));
+                json(&card::changed(&change, reasoned.as_ref()))
             }
             Question::Name(_) | Question::Lines(_) | Question::Amend { .. } => String::new(),
         })

@@ -3,11 +3,12 @@
 //! The needed time is the proved answer's; places on the card are the proved
 //! `rank`'s. What is found here is shown only where it comes to that needed time.
 
+use std::cell::LazyCell;
 use std::cmp::Reverse;
 
 use proved::{Change, Keys, Side, Source};
 
-use crate::answers;
+use crate::answers::{self, Changed};
 use crate::dates;
 use crate::explain::questions::code;
 use crate::files::latin;
@@ -21,7 +22,7 @@ const ANY_COMPANY: u64 = 0x2a_20_20;
 const ANY_MODE: u64 = 0x2a_20_20_20;
 
 /// The keys of an exception, as they are called.
-const NAMES: [&str; 4] = ["from company", "from mode", "to company", "to mode"];
+const NAMES: [&str; 4] = ["the from company", "the from mode", "the to company", "the to mode"];
 
 pub const RULE: &str = "Of the exceptions that apply to a change, the one with the highest place counts, \
                         whatever the times; with the same place, the one with the larger time.";
@@ -58,7 +59,7 @@ impl Pattern {
         self.0.iter().zip("cmcm".chars()).map(|(&named, letter)| if named { letter } else { '*' }).collect()
     }
 
-    /// `names from company and to mode`.
+    /// `names the from company and the to mode`.
     fn meaning(self) -> String {
         let named = NAMES.iter().zip(self.0).filter(|(_, named)| *named).map(|(name, _)| name.to_string());
         match listed(&named.collect::<Vec<_>>()) {
@@ -79,10 +80,10 @@ fn listed(parts: &[String]) -> String {
 
 /// The sixteen patterns by their places.
 pub fn card() -> Result<Vec<(u64, Pattern)>, Trouble> {
-    let all = (0..proved::CARD).map(|bits| Pattern([8, 4, 2, 1].map(|bit| bits & bit != 0)));
+    let all = (0..proved::PATTERNS).map(|bits| Pattern([8, 4, 2, 1].map(|bit| bits & bit != 0)));
     let mut card: Vec<(u64, Pattern)> = all.map(|pattern| (proved::rank(pattern.keys()), pattern)).collect();
     card.sort_by_key(|(place, _)| *place);
-    match card.iter().map(|(place, _)| *place).eq(0..proved::CARD) {
+    match card.iter().map(|(place, _)| *place).eq(0..proved::PATTERNS) {
         true => Ok(card),
         false => {
             Err(Trouble::new("Two patterns have one place on the card: the program is not as it was proved."))
@@ -92,7 +93,9 @@ pub fn card() -> Result<Vec<(u64, Pattern)>, Trouble> {
 
 pub fn card_text(card: &[(u64, Pattern)]) -> String {
     let mut text = "The desk's card: which exception of XCHANGES counts before which\n".to_string();
-    text += "A pattern tells from company, from mode, to company, to mode: c and m are named, * is any.\n\n";
+    text += "A pattern tells from company, from mode, to company, to mode: c and m are named, * is any.\n\
+             From is the service that one leaves, on the leg before the change; to is the one boarded, \
+             on the leg after it.\n\n";
     for (place, pattern) in card {
         text += &format!("{place:>2}  {}  {}\n", pattern.letters(), pattern.meaning());
     }
@@ -113,11 +116,6 @@ pub fn card_answer(card: &[(u64, Pattern)]) -> answers::Card {
         }
     };
     answers::Card { card: card.iter().map(entry).collect(), rule: RULE }
-}
-
-/// The needed time of a change, where it is that of an exception.
-pub fn needed_by_exception(change: &Change) -> Option<u64> {
-    change.needed.filter(|_| change.source == Some(Source::XChanges))
 }
 
 /// An exception that applies to a change.
@@ -145,10 +143,15 @@ impl Exception {
     }
 }
 
-/// The exceptions that apply to a change, in the order of the file; none where the
-/// tables do not show what was asked.
-pub fn applied(tables: &Tables, from: Side, to: Side) -> Option<Vec<Exception>> {
-    let (left, boarded) = (tables.service(from.service)?, tables.service(to.service)?);
+/// The exceptions that apply to a change between two services as the tables have
+/// them, in the order of the file; none where the tables do not show what was asked.
+pub fn applied(
+    tables: &Tables,
+    [left, boarded]: [Option<Service>; 2],
+    from: Side,
+    to: Side,
+) -> Option<Vec<Exception>> {
+    let (left, boarded) = (left?, boarded?);
     // A comes along the leg before its stop, B goes on along the leg after it.
     let (from_leg, to_leg) = (from.stop.checked_sub(1)?, to.stop);
     let ridden = Keys {
@@ -160,6 +163,7 @@ pub fn applied(tables: &Tables, from: Side, to: Side) -> Option<Vec<Exception>> 
     let station = left.stop(from.stop)?.station;
     let day = dates::count(from.date)? - dates::count(tables.validity().first)?;
     let day = usize::try_from(day).ok()?;
+    let marked = LazyCell::new(|| tables.marked_on(XFOOTNOTE, day));
     let is_opening = |row: &[u64]| row[0] == u64::from(b'#');
     // A row stands for a line.
     let rows = tables.rows(XCHANGES).zip(1..).skip_while(|(row, _)| !(is_opening(row) && row[1] == station));
@@ -168,7 +172,7 @@ pub fn applied(tables: &Tables, from: Side, to: Side) -> Option<Vec<Exception>> 
         let keys = Keys { from_company: row[1], from_mode: row[2], to_company: row[3], to_mode: row[4] };
         let exception =
             || Exception { line, keys, time: row[5], footnote: row[6], place: proved::rank(keys) };
-        (fits(&keys, &ridden) && tables.is_marked(XFOOTNOTE, row[6], day)).then(exception)
+        (fits(&keys, &ridden) && marked.contains(&row[6])).then(exception)
     });
     Some(applied.collect())
 }
@@ -194,23 +198,28 @@ pub enum Because {
     Only,
     HigherPlace,
     LargerTime,
-    /// Others have its place and its time.
+    /// All others of its place have its time.
     SameTime,
+    /// What was found does not come to the needed time: nothing is made of it.
+    Unexplained,
 }
 
-/// The exceptions that apply, the one that counts first, and why it counts.
+/// The exceptions that apply, the one that counts first, and why it counts; none
+/// where that is not explained.
 #[derive(Clone, Debug, PartialEq, Eq)]
 pub struct Reasoned {
     exceptions: Vec<Exception>,
     because: Because,
 }
 
-/// Why the needed time is what it is. None where what was found does not come to
-/// it: then nothing is made of it.
-pub fn reasoned(applied: Option<Vec<Exception>>, needed: u64) -> Option<Reasoned> {
-    let mut exceptions = applied?;
+/// Why the needed time of a change is what it is, where it is that of an exception.
+pub fn reasoned(change: &Change, applied: impl FnOnce() -> Option<Vec<Exception>>) -> Option<Reasoned> {
+    let needed = change.needed.filter(|_| change.source == Some(Source::XChanges))?;
+    let mut exceptions = applied().unwrap_or_default();
     exceptions.sort_by_key(|exception| (Reverse(exception.place), Reverse(exception.time), exception.line));
-    let best = exceptions.first().filter(|best| best.time == needed)?;
+    let Some(best) = exceptions.first().filter(|best| best.time == needed) else {
+        return Some(Reasoned { exceptions: Vec::new(), because: Because::Unexplained });
+    };
     let because = match exceptions.iter().rfind(|other| other.place == best.place) {
         _ if exceptions.len() == 1 => Because::Only,
         Some(last) if last.line == best.line => Because::HigherPlace,
@@ -221,9 +230,30 @@ pub fn reasoned(applied: Option<Vec<Exception>>, needed: u64) -> Option<Reasoned
 }
 
 impl Reasoned {
-    /// One sentence, without its end.
-    fn sentence(&self) -> String {
-        let place = self.exceptions[0].place;
+    /// What is said beside a needed time of XCHANGES.
+    pub fn text(&self, station: u64) -> String {
+        let mut text = format!("  card    {}\n", self.sentence(station));
+        let last = self.exceptions.iter().map(|exception| exception.line).max().unwrap_or(0);
+        let width = last.to_string().len();
+        for (at, exception) in self.exceptions.iter().enumerate() {
+            // The row as the supplier wrote it, from the keys on.
+            text += &format!(
+                "          line {:>width$}  {},{:03},{:05}  place {:>2} ({})  {}{}\n",
+                exception.line,
+                exception.written().join(","),
+                exception.time,
+                exception.footnote,
+                exception.place,
+                Pattern::of(&exception.keys).letters(),
+                dates::length(exception.time as i64),
+                if at == 0 { ", which counts" } else { "" }
+            );
+        }
+        text
+    }
+
+    fn sentence(&self, station: u64) -> String {
+        let place = self.exceptions.first().map_or(0, |best| best.place);
         let beside = self.exceptions.iter().filter(|other| other.place == place);
         let mut lines: Vec<u64> = beside.map(|other| other.line).collect();
         lines.sort();
@@ -233,54 +263,31 @@ impl Reasoned {
         lower.dedup();
         let highest = if lower.is_empty() { "" } else { ", the highest" };
         match self.because {
-            Because::Only => "it is the only exception that applies".into(),
+            Because::Only => "only one exception applies:".into(),
             Because::HigherPlace => {
                 let places = if lower.len() == 1 { "place" } else { "places" };
                 let lower = listed(&lower.iter().map(u64::to_string).collect::<Vec<_>>());
-                format!("place {place} on the desk's card counts before {places} {lower}, whatever the times")
+                format!("place {place} counts before {places} {lower}, whatever the times:")
             }
             Because::LargerTime => {
-                format!("lines {lines} have the same place {place} on the desk's card{highest}, and the larger time counts")
+                format!("lines {lines} have the same place {place}{highest}, and the larger time counts:")
             }
             Because::SameTime => {
-                format!("lines {lines} have the same place {place} on the desk's card{highest}, and the same time")
+                format!("lines {lines} have the same place {place}{highest}, and the same time:")
             }
+            Because::Unexplained => format!(
+                "cannot be told: the exceptions that the program finds for {} do not come to the needed \
+                 time. The answer stands; tell whoever keeps the program.",
+                code(station)
+            ),
         }
     }
 }
 
-/// What is said beside a needed time of XCHANGES.
-pub fn text(reasoned: Option<&Reasoned>, station: u64) -> String {
-    let Some(reasoned) = reasoned else { return format!("  why     {}\n", cannot(station)) };
-    let mut text = format!("  why     {}:\n", reasoned.sentence());
-    let width =
-        reasoned.exceptions.iter().map(|exception| exception.line).max().unwrap_or(0).to_string().len();
-    for (at, exception) in reasoned.exceptions.iter().enumerate() {
-        text += &format!(
-            "          line {:>width$}  {}  place {:>2} ({})  {}{}\n",
-            exception.line,
-            exception.written().join(","),
-            exception.place,
-            Pattern::of(&exception.keys).letters(),
-            dates::length(exception.time as i64),
-            if at == 0 { ", which counts" } else { "" }
-        );
-    }
-    text
-}
-
-fn cannot(station: u64) -> String {
-    format!(
-        "the program cannot explain this time: the exceptions that it finds for {} do not come to it. The answer \
-         stands; tell whoever keeps the program.",
-        code(station)
-    )
-}
-
-/// The same for programs.
-pub fn answer(reasoned: Option<&Reasoned>) -> (Option<Vec<answers::Exception>>, &'static str) {
-    let Some(reasoned) = reasoned else { return (None, "unexplained") };
-    let told = reasoned.exceptions.iter().enumerate().map(|(at, exception)| {
+/// The answer for programs, with the reason where the needed time is that of XCHANGES.
+pub fn changed(change: &Change, reasoned: Option<&Reasoned>) -> Changed {
+    let Some(Reasoned { exceptions, because }) = reasoned else { return Changed::of(change) };
+    let told = exceptions.iter().enumerate().map(|(at, exception)| {
         let [from_company, from_mode, to_company, to_mode] = exception.written();
         answers::Exception {
             line: exception.line,
@@ -295,13 +302,15 @@ pub fn answer(reasoned: Option<&Reasoned>) -> (Option<Vec<answers::Exception>>, 
             counts: at == 0,
         }
     });
-    let because = match reasoned.because {
+    let word = match because {
         Because::Only => "only",
         Because::HigherPlace => "higher-place",
         Because::LargerTime => "larger-time",
         Because::SameTime => "same-time",
+        Because::Unexplained => "unexplained",
     };
-    (Some(told.collect()), because)
+    let exceptions = (*because != Because::Unexplained).then(|| told.collect());
+    Changed { exceptions, because: Some(word), ..Changed::of(change) }
 }
 
 #[cfg(test)]
@@ -346,31 +355,41 @@ mod tests {
     const FROM: Side = Side { service: 1, stop: 2, date: 2_012_015 };
     const TO: Side = Side { service: 2, stop: 1, date: 2_012_015 };
 
+    fn found(tables: &Tables, from: Side, to: Side) -> Option<Vec<Exception>> {
+        applied(tables, [from, to].map(|side| tables.service(side.service)), from, to)
+    }
+
     /// The needed time as it is proved, and what is said of it.
     fn told(exceptions: &str, from: Side) -> (u64, String) {
         let tables = tables(exceptions);
         let change = proved::change(tables.lent(), from, TO).expect("an answer");
         let needed = change.needed.expect("a needed time");
-        (needed, text(reasoned(applied(&tables, from, TO), needed).as_ref(), pack(b"pier   ")))
+        let reasoned = reasoned(&change, || found(&tables, from, TO)).expect("a time of XCHANGES");
+        (needed, reasoned.text(pack(b"pier   ")))
     }
 
     #[test]
     fn the_only_exception() {
-        let said = "  why     it is the only exception that applies:\n          line 5  *  ,IC  ,*  ,*     place  4 (*m**)  12 minutes, which counts\n";
+        let said = "  card    only one exception applies:
+          line 5  *  ,IC  ,*  ,*   ,012,00001  place  4 (*m**)  12 minutes, which counts
+";
         assert_eq!(told("-*  ,IC  ,*  ,*   ,012,00001\n", FROM), (12, said.into()));
         // Others do not apply: keys that do not fit, and a footnote without that day.
-        let others = "-*  ,IC  ,*  ,*   ,012,00001\n-200,*   ,*  ,*   ,013,00001\n-*  ,SHIP,*  ,*   ,014,00001\n-*  ,*   ,100,*   ,015,00001\n-*  ,*   ,*  ,IC  ,016,00001\n-*  ,IC  ,*  ,*   ,017,00002\n";
+        let others = "-*  ,IC  ,*  ,*   ,012,00001\n-200,*   ,*  ,*   ,013,00001\n\
+                      -*  ,SHIP,*  ,*   ,014,00001\n-*  ,*   ,100,*   ,015,00001\n\
+                      -*  ,*   ,*  ,IC  ,016,00001\n-*  ,IC  ,*  ,*   ,017,00002\n";
         assert_eq!(told(others, Side { date: 3_012_015, ..FROM }), (12, said.into()));
     }
 
     #[test]
     fn a_higher_place() {
-        let rows = "-*  ,IC  ,200,SHIP,090,00001\n-100,*   ,*  ,*   ,012,00001\n-*  ,IC  ,200,SHIP,080,00002\n-*  ,*   ,*  ,*   ,005,00001\n";
-        let said = "  why     place 8 on the desk's card counts before places 7 and 0, whatever the times:
-          line 6  100,*   ,*  ,*     place  8 (c***)  12 minutes, which counts
-          line 5  *  ,IC  ,200,SHIP  place  7 (*mcm)  90 minutes (1 h 30)
-          line 7  *  ,IC  ,200,SHIP  place  7 (*mcm)  80 minutes (1 h 20)
-          line 8  *  ,*   ,*  ,*     place  0 (****)  5 minutes
+        let rows = "-*  ,IC  ,200,SHIP,090,00001\n-100,*   ,*  ,*   ,012,00001\n\
+                    -*  ,IC  ,200,SHIP,080,00002\n-*  ,*   ,*  ,*   ,005,00001\n";
+        let said = "  card    place 8 counts before places 7 and 0, whatever the times:
+          line 6  100,*   ,*  ,*   ,012,00001  place  8 (c***)  12 minutes, which counts
+          line 5  *  ,IC  ,200,SHIP,090,00001  place  7 (*mcm)  90 minutes (1 h 30)
+          line 7  *  ,IC  ,200,SHIP,080,00002  place  7 (*mcm)  80 minutes (1 h 20)
+          line 8  *  ,*   ,*  ,*   ,005,00001  place  0 (****)  5 minutes
 ";
         assert_eq!(told(rows, FROM), (12, said.into()));
     }
@@ -378,18 +397,17 @@ mod tests {
     #[test]
     fn the_same_place() {
         let rows = "-100,IC  ,*  ,*   ,012,00001\n-100,IC  ,*  ,*   ,020,00002\n";
-        let said =
-            "  why     lines 5 and 6 have the same place 12 on the desk's card, and the larger time counts:
-          line 6  100,IC  ,*  ,*     place 12 (cm**)  20 minutes, which counts
-          line 5  100,IC  ,*  ,*     place 12 (cm**)  12 minutes
+        let said = "  card    lines 5 and 6 have the same place 12, and the larger time counts:
+          line 6  100,IC  ,*  ,*   ,020,00002  place 12 (cm**)  20 minutes, which counts
+          line 5  100,IC  ,*  ,*   ,012,00001  place 12 (cm**)  12 minutes
 ";
         assert_eq!(told(rows, FROM), (20, said.into()));
         let rows =
             "-100,IC  ,*  ,*   ,012,00001\n-*  ,*   ,*  ,*   ,099,00002\n-100,IC  ,*  ,*   ,012,00002\n";
-        let said = "  why     lines 5 and 7 have the same place 12 on the desk's card, the highest, and the same time:
-          line 5  100,IC  ,*  ,*     place 12 (cm**)  12 minutes, which counts
-          line 7  100,IC  ,*  ,*     place 12 (cm**)  12 minutes
-          line 6  *  ,*   ,*  ,*     place  0 (****)  99 minutes (1 h 39)
+        let said = "  card    lines 5 and 7 have the same place 12, the highest, and the same time:
+          line 5  100,IC  ,*  ,*   ,012,00001  place 12 (cm**)  12 minutes, which counts
+          line 7  100,IC  ,*  ,*   ,012,00002  place 12 (cm**)  12 minutes
+          line 6  *  ,*   ,*  ,*   ,099,00002  place  0 (****)  99 minutes (1 h 39)
 ";
         assert_eq!(told(rows, FROM), (12, said.into()));
     }
@@ -397,19 +415,27 @@ mod tests {
     /// Tables that do not fit an answer give no reason for it.
     #[test]
     fn no_false_reason() {
-        let cannot = "  why     the program cannot explain this time: the exceptions that it finds for pier do not come to it. The answer stands; tell whoever keeps the program.\n";
+        let cannot = "  card    cannot be told: the exceptions that the program finds for pier do not \
+                      come to the needed time. The answer stands; tell whoever keeps the program.\n";
         let tables = tables("-*  ,IC  ,*  ,*   ,012,00001\n-*  ,*   ,*  ,*   ,020,00001\n");
-        let found = || applied(&tables, FROM, TO);
-        assert!(reasoned(found(), 12).is_some());
+        let change = proved::change(tables.lent(), FROM, TO).expect("an answer");
+        let all = || found(&tables, FROM, TO);
+        let because = |needed: u64, exceptions: Option<Vec<Exception>>| {
+            let change = Change { needed: Some(needed), ..change };
+            reasoned(&change, || exceptions).expect("a time of XCHANGES").because
+        };
+        assert_eq!(because(12, all()), Because::HigherPlace);
         // Another time, also that of an exception that does not count.
         for needed in [0, 13, 20, 999] {
-            assert_eq!(reasoned(found(), needed), None);
+            assert_eq!(because(needed, all()), Because::Unexplained);
         }
-        assert_eq!(reasoned(Some(Vec::new()), 12), None);
-        assert_eq!(reasoned(None, 12), None);
-        assert_eq!(text(None, pack(b"pier   ")), cannot);
-        let (exceptions, because) = answer(None);
-        assert!(exceptions.is_none() && because == "unexplained");
+        assert_eq!(because(12, Some(Vec::new())), Because::Unexplained);
+        let unexplained = reasoned(&change, || None).expect("a time of XCHANGES");
+        assert_eq!(unexplained.text(pack(b"pier   ")), cannot);
+        let told = changed(&change, Some(&unexplained));
+        assert!(told.exceptions.is_none() && told.because == Some("unexplained"));
+        // No reason is given for a time that is not of XCHANGES.
+        assert_eq!(reasoned(&Change { source: Some(Source::Stations), ..change }, all), None);
         // What the tables do not have is not looked for elsewhere.
         for (from, to) in [
             (Side { service: 3, ..FROM }, TO),
@@ -421,21 +447,24 @@ mod tests {
             (FROM, Side { stop: 2, ..TO }),
             (FROM, Side { stop: u64::MAX, ..TO }),
         ] {
-            assert_eq!(applied(&tables, from, to), None, "{from:?} {to:?}");
+            assert_eq!(found(&tables, from, to), None, "{from:?} {to:?}");
         }
-        assert_eq!(applied(&Tables::default(), FROM, TO), None);
+        assert_eq!(found(&Tables::default(), FROM, TO), None);
     }
 
     #[test]
     fn patterns_in_words() {
         let told = |named| (Pattern(named).letters(), Pattern(named).meaning());
         assert_eq!(told([false; 4]), ("****".into(), "names nothing".into()));
-        assert_eq!(told([false, false, false, true]), ("***m".into(), "names to mode".into()));
+        assert_eq!(told([false, false, false, true]), ("***m".into(), "names the to mode".into()));
         assert_eq!(
             told([true, false, true, false]),
-            ("c*c*".into(), "names from company and to company".into())
+            ("c*c*".into(), "names the from company and the to company".into())
         );
-        assert_eq!(told([true, true, true, true]).1, "names from company, from mode, to company and to mode");
+        assert_eq!(
+            told([true, true, true, true]).1,
+            "names the from company, the from mode, the to company and the to mode"
+        );
         for bits in 0..16 {
             let pattern = Pattern([8, 4, 2, 1].map(|bit| bits & bit != 0));
             assert_eq!(Pattern::of(&pattern.keys()), pattern);

@@ -251,8 +251,10 @@ impl Desk {
             &self.progress,
             |tables| proved::change(tables.lent(), from, to),
             |tables| {
-                let stops = [from, to].map(|side| tables.stop(side.service, side.stop));
-                (stops, card::applied(tables, from, to))
+                let services = [from, to].map(|side| tables.service(side.service));
+                let stops = [(services[0], from), (services[1], to)]
+                    .map(|(service, side)| service.and_then(|service| service.stop(side.stop)));
+                (stops, card::applied(tables, services, from, to))
             },
         )?;
         let change = match answer {
@@ -297,10 +299,9 @@ impl Desk {
                 .map_or("none: it may not be made".into(), |needed| dates::length(needed as i64));
             text += &format!("  needed  {needed}, by {}\n", source_name(source));
         }
-        let by_exception = card::needed_by_exception(&change);
-        let reasoned = by_exception.and_then(|needed| card::reasoned(exceptions, needed));
-        if by_exception.is_some() {
-            text += &card::text(reasoned.as_ref(), left.station);
+        let reasoned = card::reasoned(&change, || exceptions);
+        if let Some(reasoned) = &reasoned {
+            text += &reasoned.text(left.station);
         }
         let told = |side: Side, station: u64, local: Option<i64>| {
             Some(answers::Side {
@@ -313,11 +314,7 @@ impl Desk {
         let changed = Changed {
             from: told(from, left.station, arrival),
             to: told(to, boarded.station, departure),
-            ..Changed::of(&change)
-        };
-        let changed = match by_exception {
-            Some(_) => changed.reasoned(reasoned.as_ref()),
-            None => changed,
+            ..card::changed(&change, reasoned.as_ref())
         };
         Ok(Told::new(status, text, json(&changed)))
     }

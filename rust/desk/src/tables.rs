@@ -2,6 +2,7 @@
 //! (docs/TABLES.md). Rows may be looked at in any tables; what was found there is
 //! shown where the tables are found sound.
 
+use std::collections::HashSet;
 use std::ops::{Deref, DerefMut};
 
 use memmap2::MmapMut;
@@ -185,20 +186,19 @@ impl Tables {
 
     /// The vector of a footnote: whether each day, from the first, has 1.
     pub fn days_of(&self, footnote: u64, days: usize) -> Option<Vec<bool>> {
-        let vector = self.vector(FOOTNOTE, footnote)?;
+        let mut rows = self.rows(FOOTNOTE).skip(1);
+        rows.find(|row| row[0] == u64::from(b'#') && row[1] == footnote)?;
+        let vector = rows.next()?;
         Some((0..days).map(|day| has(vector, day)).collect())
     }
 
-    /// Whether a footnote of FOOTNOTE or XFOOTNOTE has 1 on a day, counted from the
+    /// The footnotes of FOOTNOTE or XFOOTNOTE that have 1 on a day, counted from the
     /// first.
-    pub fn is_marked(&self, file: usize, footnote: u64, day: usize) -> bool {
-        self.vector(file, footnote).is_some_and(|vector| has(vector, day))
-    }
-
-    fn vector(&self, file: usize, footnote: u64) -> Option<&[u64]> {
-        let mut rows = self.rows(file).skip(1);
-        rows.find(|row| row[0] == u64::from(b'#') && row[1] == footnote)?;
-        rows.next()
+    pub fn marked_on(&self, file: usize, day: usize) -> HashSet<u64> {
+        // A vector stands behind its `#`.
+        let pairs = self.rows(file).zip(self.rows(file).skip(1));
+        let marked = pairs.filter(|(row, vector)| row[0] == u64::from(b'#') && has(vector, day));
+        marked.map(|(row, _)| row[1]).collect()
     }
 }
 

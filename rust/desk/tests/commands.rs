@@ -119,21 +119,21 @@ fn exceptions_may_be_unsettled() {
 /// The card as the desk has it.
 const CARD: [&str; 16] = [
     " 0  ****  names nothing",
-    " 1  ***m  names to mode",
-    " 2  **c*  names to company",
-    " 3  **cm  names to company and to mode",
-    " 4  *m**  names from mode",
-    " 5  *m*m  names from mode and to mode",
-    " 6  *mc*  names from mode and to company",
-    " 7  *mcm  names from mode, to company and to mode",
-    " 8  c***  names from company",
-    " 9  c**m  names from company and to mode",
-    "10  c*c*  names from company and to company",
-    "11  c*cm  names from company, to company and to mode",
-    "12  cm**  names from company and from mode",
-    "13  cm*m  names from company, from mode and to mode",
-    "14  cmc*  names from company, from mode and to company",
-    "15  cmcm  names from company, from mode, to company and to mode",
+    " 1  ***m  names the to mode",
+    " 2  **c*  names the to company",
+    " 3  **cm  names the to company and the to mode",
+    " 4  *m**  names the from mode",
+    " 5  *m*m  names the from mode and the to mode",
+    " 6  *mc*  names the from mode and the to company",
+    " 7  *mcm  names the from mode, the to company and the to mode",
+    " 8  c***  names the from company",
+    " 9  c**m  names the from company and the to mode",
+    "10  c*c*  names the from company and the to company",
+    "11  c*cm  names the from company, the to company and the to mode",
+    "12  cm**  names the from company and the from mode",
+    "13  cm*m  names the from company, the from mode and the to mode",
+    "14  cmc*  names the from company, the from mode and the to company",
+    "15  cmcm  names the from company, the from mode, the to company and the to mode",
 ];
 
 #[test]
@@ -142,6 +142,7 @@ fn the_card_is_shown() {
         "\
 The desk's card: which exception of XCHANGES counts before which
 A pattern tells from company, from mode, to company, to mode: c and m are named, * is any.
+From is the service that one leaves, on the leg before the change; to is the one boarded, on the leg after it.
 
 {}
 
@@ -211,9 +212,9 @@ No: the gap of 37 is below the needed time of 45.
   board   service 00000006 at stop 1, HVH Hoek van Holland Haven: departs 08:37 on Tue 15 Dec 2015
   gap     37 minutes
   needed  45 minutes, by XCHANGES
-  why     place 14 on the desk's card counts before place 3, whatever the times:
-          line 3  100,SHIP,200,*     place 14 (cmc*)  45 minutes, which counts
-          line 4  *  ,*   ,200,SPR   place  3 (**cm)  60 minutes (1 h 00)
+  card    place 14 counts before place 3, whatever the times:
+          line 3  100,SHIP,200,*   ,045,00001  place 14 (cmc*)  45 minutes, which counts
+          line 4  *  ,*   ,200,SPR ,060,00001  place  3 (**cm)  60 minutes (1 h 00)
 ";
     let said = ask_for("2 2 14122015 6 1 15122015");
     assert_eq!((said.status, said.out.as_str(), said.err.as_str()), (Some(3), no, ""));
@@ -240,13 +241,13 @@ No: the gap of 37 is below the needed time of 45.
     ask_for("5 3 14122015 6 1 15122015").is(
         0,
         "  needed  60 minutes (1 h 00), by XCHANGES
-  why     it is the only exception that applies:
-          line 4  *  ,*   ,200,SPR   place  3 (**cm)  60 minutes (1 h 00), which counts
+  card    only one exception applies:
+          line 4  *  ,*   ,200,SPR ,060,00001  place  3 (**cm)  60 minutes (1 h 00), which counts
 ",
     );
     // What does not rest on XCHANGES has no reason beside it.
     for words in ["1 2 14122015 3 1 15122015", "5 3 14122015 1 1 14122015", "1 2 14122015 5 1 15122015"] {
-        assert!(!ask_for(words).out.contains("  why "));
+        assert!(!ask_for(words).out.contains("  card  "));
         let told = ask_for(&format!("{words} --json")).json();
         assert!(told.get("exceptions").is_none() && told.get("because").is_none(), "{told}");
     }
@@ -268,10 +269,10 @@ fn exceptions_of_one_place_are_told() {
     let store = folder.join("store");
     line("open {} {}", &[&delivery, &store]).is(0, "Accepted");
     let why = "  needed  999 minutes (16 h 39), by XCHANGES
-  why     lines 3 and 5 have the same place 14 on the desk's card, the highest, and the larger time counts:
-          line 5  100,SHIP,200,*     place 14 (cmc*)  999 minutes (16 h 39), which counts
-          line 3  100,SHIP,200,*     place 14 (cmc*)  45 minutes
-          line 4  *  ,*   ,200,SPR   place  3 (**cm)  60 minutes (1 h 00)
+  card    lines 3 and 5 have the same place 14, the highest, and the larger time counts:
+          line 5  100,SHIP,200,*   ,999,00002  place 14 (cmc*)  999 minutes (16 h 39), which counts
+          line 3  100,SHIP,200,*   ,045,00001  place 14 (cmc*)  45 minutes
+          line 4  *  ,*   ,200,SPR ,060,00001  place  3 (**cm)  60 minutes (1 h 00)
 ";
     let said = line("change {} 2 2 14122015 6 1 16122015", &[&store]);
     said.is(4, "Unsettled").is(4, why);

@@ -105,7 +105,7 @@ pub struct Keys {
 }
 
 /// How many patterns stand on the desk's card.
-pub const CARD: u64 = 16;
+pub const PATTERNS: u64 = 16;
 
 /// Whether eleven tables are sound: what a load could have left.
 pub fn is_sound(tables: [&[u64]; FILES]) -> bool {
@@ -213,7 +213,7 @@ fn source_of(word: u64) -> Option<Option<Source>> {
 /// 0, all wildcards, to 15, none. Nothing is asked of the keys.
 pub fn rank(keys: Keys) -> u64 {
     let place = archive::rank(keys);
-    by_contract((place < CARD).then_some(place), place)
+    by_contract((place < PATTERNS).then_some(place), place)
 }
 
 /// The name of the first row of a STATIONS file with this packed short name, a
