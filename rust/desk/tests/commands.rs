@@ -196,7 +196,7 @@ fn the_card_in_the_documents_is_the_programs() {
     assert_eq!(lines_of(&page), shown);
     // The supplier's question is answered as the page has it.
     let folder = folder("supplier");
-    let said = line("change {} 2 2 2015-12-14 6 1 2015-12-16", &[&opened(&folder)]);
+    let said = line("change {} 2 2 2015-12-14 6 1 2015-12-15", &[&opened(&folder)]);
     assert!(page.contains(&said.out), "{said:#?}");
 }
 
@@ -214,7 +214,7 @@ No: the gap of 37 is below the needed time of 45.
   needed  45 minutes, by XCHANGES
   card    place 14 counts before place 3, whatever the times:
           line 3  100,SHIP,200,*   ,045,00001  place 14 (cmc*)  45 minutes, which counts
-          line 4  *  ,*   ,200,SPR ,060,00001  place  3 (**cm)  60 minutes (1 h 00)
+          line 4  *  ,*   ,200,SPR ,020,00001  place  3 (**cm)  20 minutes
 ";
     let said = ask_for("2 2 14122015 6 1 15122015");
     assert_eq!((said.status, said.out.as_str(), said.err.as_str()), (Some(3), no, ""));
@@ -224,7 +224,7 @@ No: the gap of 37 is below the needed time of 45.
     });
     let sprinter = json!({
         "line": 4, "from_company": "*  ", "from_mode": "*   ", "to_company": "200", "to_mode": "SPR ",
-        "time": 60, "footnote": 1, "pattern": "**cm", "place": 3, "counts": false,
+        "time": 20, "footnote": 1, "pattern": "**cm", "place": 3, "counts": false,
     });
     let told = ask_for("2 2 14122015 6 1 15122015 --json").json();
     assert_eq!(told["exceptions"], json!([boat, sprinter]));
@@ -240,9 +240,9 @@ No: the gap of 37 is below the needed time of 45.
     ask_for("2 2 14122015 6 1 16122015").is(0, "counts before place 3, whatever the times:\n");
     ask_for("5 3 14122015 6 1 15122015").is(
         0,
-        "  needed  60 minutes (1 h 00), by XCHANGES
+        "  needed  20 minutes, by XCHANGES
   card    only one exception applies:
-          line 4  *  ,*   ,200,SPR ,060,00001  place  3 (**cm)  60 minutes (1 h 00), which counts
+          line 4  *  ,*   ,200,SPR ,020,00001  place  3 (**cm)  20 minutes, which counts
 ",
     );
     // What does not rest on XCHANGES has no reason beside it.
@@ -272,7 +272,7 @@ fn exceptions_of_one_place_are_told() {
   card    lines 3 and 5 have the same place 14, the highest, and the larger time counts:
           line 5  100,SHIP,200,*   ,999,00002  place 14 (cmc*)  999 minutes (16 h 39), which counts
           line 3  100,SHIP,200,*   ,045,00001  place 14 (cmc*)  45 minutes
-          line 4  *  ,*   ,200,SPR ,060,00001  place  3 (**cm)  60 minutes (1 h 00)
+          line 4  *  ,*   ,200,SPR ,020,00001  place  3 (**cm)  20 minutes
 ";
     let said = line("change {} 2 2 14122015 6 1 16122015", &[&store]);
     said.is(4, "Unsettled").is(4, why);
