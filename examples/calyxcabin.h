@@ -83,6 +83,10 @@ void calyxcabin_change(
     CALYXCABIN_ELEVEN(const uint64_t), uint64_t from_service, uint64_t from_stop, uint64_t from_date, uint64_t to_service, uint64_t to_stop,
     uint64_t to_date, uint64_t *answer, int32_t *gap);
 
+/* The rank of an exception by its four keys as the table of XCHANGES holds them (docs/TABLES.md): the place of its pattern on the desk's card
+ * (docs/CARD.md), from 0, all wildcards, to 15, none. */
+uint64_t calyxcabin_rank(uint64_t from_company, uint64_t from_mode, uint64_t to_company, uint64_t to_mode);
+
 /* answer[3]: 0 or 17; where in the STATIONS file the name begins and ends. */
 void calyxcabin_name(const uint8_t *stations, size_t stations_length, uint64_t short_name, uint64_t *answer);
 

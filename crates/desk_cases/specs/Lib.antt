@@ -9,3 +9,4 @@ pub mod AmendCases
 pub mod AnswerCases
 pub mod Borders
 pub mod ClockCases
+pub mod CardCases

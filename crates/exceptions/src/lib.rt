@@ -155,7 +155,7 @@ fn weighed(t: &[u64], i: usize, best: Best) -> Best
     let from = from_keys(t, i);
     let to = to_keys(t, i);
     let time = tables::word_at(t, EXCEPTION_WIDTH, i, words::EXCEPTION_TIME);
-    verdicts::better(best, verdicts::rank(from, to), time)
+    verdicts::better(best, ranks::rank(from, to), time)
 }
 
 // The best with row `i`, where it applies.

@@ -1,12 +1,13 @@
 // The proved library for programs in other languages. A slice is handed over as a pointer and a length, an array as a pointer.
 use iff::Test;
+use iff_desk::Riding;
 ghost use lib.ListN.{length};
 ghost use mathlib.Core.Path.{_≡_};
 ghost use Rattle.iff.specs.Files.{eleven};
 ghost use Rattle.iff_desk.specs.Sound.{sound as areSound};
 ghost use Rattle.iff_desk.specs.Running.{runningDay};
 ghost use Rattle.iff_desk.specs.Stops.{stopTime};
-ghost use Rattle.iff_desk.specs.Changing.{change as changeTo};
+ghost use Rattle.iff_desk.specs.Changing.{change as changeTo, rank as rankBy};
 ghost use Rattle.question_numbers.specs.Numbers.{soundNumber, runningWords};
 ghost use Rattle.exports.specs.Exported.{LoadedInNumbers, AmendedInNumbers, NamedInNumbers, LinesInNumbers, TimedInNumbers, ChangedInNumbers};
 
@@ -326,4 +327,25 @@ pub extern "C" fn calyxcabin_change(
     );
     *answer = change_numbers::change_words(told);
     *gap = change_numbers::change_gap(told);
+}
+
+// The rank of an exception by its four keys as the table of XCHANGES has them: its pattern's place on the desk's card. It asks no table.
+#[no_mangle]
+pub extern "C" fn calyxcabin_rank(
+    from_company: u64,
+    from_mode: u64,
+    to_company: u64,
+    to_mode: u64,
+) -> u64
+    ensures { λ r. ⌜ r ≡ rankBy (record { company = «from_company»; mode = «from_mode» }) (record { company = «to_company»; mode = «to_mode» }) ⌝ }
+{
+    let from = Riding {
+        company: from_company,
+        mode: from_mode,
+    };
+    let to = Riding {
+        company: to_company,
+        mode: to_mode,
+    };
+    ranks::rank(from, to)
 }

@@ -1,5 +1,5 @@
 -- "Change: from service A at stop i (2 to n) on its date to B at stop j (1 to n-1) on its date."
-use Prim.Native.Nat.{ℕ, _+_, _-_}
+use Prim.Native.Nat.{ℕ, _-_}
 use mathlib.Core.List.{List, [], _∷_}
 use mathlib.Core.Bool.{Bool, true, false, _&&_, _||_, not, cond}
 use lib.ListN.{drop}
@@ -22,6 +22,7 @@ use Rattle.iff_desk.specs.Sound.{sound, rowsOfTables}
 use Rattle.iff_desk.specs.Store.{serviceRows, groupOf, stopAt, recordOn, stationRow, dayOn, marked, vectorOf}
 use Rattle.iff_desk.specs.Running.{asked, runsOn, isLeg}
 use Rattle.iff_desk.specs.Stops.{mayAlight, mayBoard, arrivalOn, departureOn}
+use Rattle.iff_desk.specs.Card.{Pattern, pattern, placeOf, isNamed}
 use Rattle.iff_desk.specs.declared.TimeOf.{TimeOf}
 use Rattle.iff_desk.specs.declared.TimeOf.the-variants.{At, NoTime}
 use Rattle.iff_desk.specs.declared.ToldTime.{ToldTime}
@@ -81,14 +82,14 @@ fits keys r = fitsKey anyCompany (keys .company) (r .company) && fitsKey anyMode
 unfoldable pub applies : PerFile (List Row) → Riding → Riding → ℕ → Row → Bool
 applies R a b d r = fits (fromKeys r) a && (fits (toKeys r) b && marked (vectorOf (R .xfootnote) (exceptionFootnote r)) d)
 
--- "Rank, desk: 8, 4, 2, 1 for an explicit from company, from mode, to company, to mode."
-abbrev pub explicit : ℕ → ℕ → ℕ → ℕ
-explicit any key points = cond (eqb key any) 0 points
+-- the pattern of four keys: which of them are named
+abbrev pub patternOf : Riding → Riding → Pattern
+patternOf from to =
+    pattern (isNamed anyCompany (from .company)) (isNamed anyMode (from .mode)) (isNamed anyCompany (to .company)) (isNamed anyMode (to .mode))
 
+-- "Let the rank come from a table of sixteen entries in the order of the desk's own card": the pattern's place on it
 unfoldable pub rank : Riding → Riding → ℕ
-rank from to =
-    explicit anyCompany (from .company) 8 + explicit anyMode (from .mode) 4
-    + explicit anyCompany (to .company) 2 + explicit anyMode (to .mode) 1
+rank from to = placeOf (patternOf from to)
 
 -- "Highest rank wins, then the larger time."
 unfoldable pub better : Best → ℕ → ℕ → Best
@@ -101,6 +102,12 @@ best b (r ∷ rs) = best (better b (rank (fromKeys r) (toKeys r)) (exceptionTime
 
 unfoldable pub bestAt : PerFile (List Row) → ℕ → Riding → Riding → ℕ → Best
 bestAt R station a b d = best NoBest (kept (applies R a b d) (drop 1 (groupOf station (R .xchanges))))
+
+-- the best row of XCHANGES for a change, at the station of A's stop
+abbrev pub bestBetween : PerFile (List Row) → Call → Call → Best
+bestBetween R A B =
+    let aRows = serviceRows R (A .service) in
+    bestAt R (named (stopAt aRows (A .stop))) (ridingOn aRows (A .stop - 1)) (ridingOn (serviceRows R (B .service)) (B .stop)) (A .day)
 
 -- THE VERDICT on a gap
 -- "Gap below needed: No. Otherwise Unsettled if .., else Yes."
@@ -158,9 +165,9 @@ afterHurdles (stop e) t c = NoBefore e
 afterHurdles clear (Fails r) c = ChangeRefused r
 afterHurdles clear Passes c = c
 
--- the core: services that are there, stops and days that are right, on sound tables; by A's arrival and B's departure
-unfoldable pub coreBy : PerFile (List Row) → Call → Call → ToldTime → ToldTime → Change
-coreBy R A B arrival departure =
+-- the core: services that are there, stops and days that are right, on sound tables; by A's arrival, B's departure and the best row of XCHANGES
+unfoldable pub coreBy : PerFile (List Row) → Call → Call → ToldTime → ToldTime → Best → Change
+coreBy R A B arrival departure best =
     let aRows = serviceRows R (A .service) in
     let bRows = serviceRows R (B .service) in
     let k = A .stop - 1 in
@@ -182,13 +189,13 @@ coreBy R A B arrival departure =
     (gapBetween (timeTold arrival) (A .day) (timeTold departure) (B .day))
     (pairAt R station (A .service) (B .service))
     (changeFlag (stationRow R station))
-    (bestAt R station (ridingOn aRows k) (ridingOn bRows m) (A .day))
+    best
     (changeTime (stationRow R station)))
 
 unfoldable pub coreChange : PerFile (List Row) → Call → Call → Change
 coreChange R A B =
     coreBy R A B (arrivalOn R (stopAt (serviceRows R (A .service)) (A .stop)) (A .day))
-    (departureOn R (stopAt (serviceRows R (B .service)) (B .stop)) (B .day))
+    (departureOn R (stopAt (serviceRows R (B .service)) (B .stop)) (B .day)) (bestBetween R A B)
 
 -- "12, 13, 14, for A then B each"
 unfoldable pub precheck : PerFile (List Row) → Side → Side → Test

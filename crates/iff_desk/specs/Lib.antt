@@ -3,6 +3,7 @@ pub mod Answers
 pub mod Store
 pub mod Running
 pub mod Stops
+pub mod Card
 pub mod Changing
 pub mod Parts
 pub mod Amend

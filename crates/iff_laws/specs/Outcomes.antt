@@ -11,11 +11,12 @@ use Rattle.iff_rules.specs.Load.{loadAnswer, loadTable}
 use Rattle.iff_desk.specs.Sound.{sound}
 use Rattle.iff_desk.specs.Running.{runningDay}
 use Rattle.iff_desk.specs.Stops.{stopTime}
-use Rattle.iff_desk.specs.Changing.{Side, change}
+use Rattle.iff_desk.specs.Changing.{Side, rank, change}
 use Rattle.iff_desk.specs.Parts.{name, nameTest, linesNow, linesNowTest}
 use Rattle.iff_desk.specs.Amend.{amendAnswer, amendTimetbls}
 use Rattle.iff_desk.specs.declared.Running.{Running}
 use Rattle.iff_desk.specs.declared.StopTime.{StopTime}
+use Rattle.iff_desk.specs.declared.Riding.{Riding}
 use Rattle.iff_desk.specs.declared.Change.{Change}
 
 -- what two calls with one input may end in is one thing
@@ -53,6 +54,9 @@ module _ (T : PerFile (List ℕ)) where
 
   pub one-change : (A B : Side) {a b : Change} → a ≡ change T A B → b ≡ change T A B → a ≡ b
   one-change A B p q = one-outcome p q
+
+pub one-rank : (from to : Riding) {a b : ℕ} → a ≡ rank from to → b ≡ rank from to → a ≡ b
+one-rank from to p q = one-outcome p q
 
 pub one-name : (stations : List ℕ) (short : ℕ) {a b : List ℕ} {m n : Test}
     → a ≡ name stations short → m ≡ nameTest stations short → b ≡ name stations short → n ≡ nameTest stations short → (a ≡ b) × (m ≡ n)

@@ -1,1 +1,2 @@
 pub mod OwnDay
+pub mod CardRanks

@@ -1,1 +1,2 @@
 pub mod ServiceDay
+pub mod Points

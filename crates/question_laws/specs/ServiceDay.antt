@@ -14,7 +14,7 @@ use Rattle.iff_desk.specs.Sound.{sound, rowsOfTables}
 use Rattle.iff_desk.specs.Store.{noRow, groupOf, serviceRows, stopAt, stationRow, dayOn, numberOn, holds, periodAt, isThere}
 use Rattle.iff_desk.specs.Running.{asked}
 use Rattle.iff_desk.specs.Stops.{arrivalOf, departureOf, timeBy, daysLater, timesTold, isStopNumber, stopTimeAfter}
-use Rattle.iff_desk.specs.Changing.{Side, callOf, coreBy, precheck, changeAfter}
+use Rattle.iff_desk.specs.Changing.{Side, callOf, bestBetween, coreBy, precheck, changeAfter}
 use Rattle.iff_desk.specs.declared.ToldTime.{ToldTime}
 use Rattle.iff_desk.specs.declared.ToldTime.the-variants.{Told, Untold}
 use Rattle.iff_desk.specs.declared.StopTime.{StopTime}
@@ -54,7 +54,7 @@ stopTimeBefore T s i date = stopTimesBefore (sound T) (rowsOfTables T) s i date
 unfoldable pub coreBefore : PerFile (List Row) → Call → Call → Change
 coreBefore R A B =
     coreBy R A B (arrivalBefore R (stopAt (serviceRows R (A .service)) (A .stop)) (A .day))
-    (departureBefore R (stopAt (serviceRows R (B .service)) (B .stop)) (B .day))
+    (departureBefore R (stopAt (serviceRows R (B .service)) (B .stop)) (B .day)) (bestBetween R A B)
 
 abbrev pub changeInBefore : Bool → PerFile (List Row) → Side → Side → Change
 changeInBefore false R A B = ChangeRefused NotSound

@@ -23,6 +23,7 @@ use Rattle.iff_desk.specs.Sound.{soundBlock, soundTimetbls, soundRows, soundTab
 use Rattle.iff_desk.specs.Store.{groupOf, stopAt, recordOn, stationRow, marked, holds, periodOf}
 use Rattle.iff_desk.specs.Running.{runsOn, asked, runningIn, runningDay}
 use Rattle.iff_desk.specs.Stops.{mayAlight, mayBoard, toldOn, stopTimeIn, stopTime}
+use Rattle.iff_desk.specs.Card.{card, placeOf}
 use Rattle.iff_desk.specs.Changing.{pairAt, ridingOn, applies, rank, better, best, bestAt, settled, byTime, core}
 use Rattle.iff_desk.specs.Changing.{firstHurdle, coreBy, coreChange, precheck, change}
 use Rattle.iff_desk.specs.Parts.{seek, seekAfter, isStation, name, nameTest, isHead, isOneBlock, linesNow, linesNowTest}
@@ -39,6 +40,6 @@ unfolding allowed digit zeroOrOne front groups flat any all kept position total 
     groupsVerdict blockTest blockMoves blockVerdict timetblsVerdict fileVerdict contentsVerdict loadVerdict loadAnswer filled loadTable passes shaped distinct
     soundFirst soundPlainRow soundPlain soundGroupRow soundGroup soundGroups soundBlockRow standAfterRows soundBlock soundTimetbls soundRows soundTable sound
     groupOf stopAt recordOn stationRow marked holds periodOf runsOn asked runningIn runningDay mayAlight mayBoard toldOn stopTimeIn stopTime pairAt
-    ridingOn applies rank better best bestAt settled byTime core firstHurdle coreBy coreChange precheck change seek seekAfter isStation name nameTest
-    isHead isOneBlock linesNow linesNowTest amendVerdict amendAnswer amendTimetbls edited bytes textOf linesOf
+    ridingOn applies card placeOf rank better best bestAt settled byTime core firstHurdle coreBy coreChange precheck change seek seekAfter isStation
+    name nameTest isHead isOneBlock linesNow linesNowTest amendVerdict amendAnswer amendTimetbls edited bytes textOf linesOf
 opened = 0

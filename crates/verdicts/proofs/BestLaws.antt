@@ -1,12 +1,10 @@
--- The better of a row of XCHANGES and the best before it, and a rank put together. Assumes nothing.
-use Prim.Native.Nat.{ℕ, _+_, _≤_, _<_}
+-- The better of a row of XCHANGES and the best before it. Assumes nothing.
+use Prim.Native.Nat.{ℕ, _≤_, _<_}
 use mathlib.Core.Path.{_≡_}
 use native.Mathlib.Omega.{arith}
 use borrow.Author.Tests.{lt-ltb, le-ltb}
-use Rattle.iff_rules.specs.References.{anyCompany, anyMode}
-use Rattle.iff_desk.specs.declared.Riding.{Riding}
 use Rattle.iff_desk.specs.declared.Best.the-variants.{BestRow}
-use Rattle.iff_desk.specs.Changing.{explicit, rank, better}
+use Rattle.iff_desk.specs.Changing.{better}
 
 module _ (highest longest rank time : ℕ) where
   pub higher-wins : highest < rank → better (BestRow highest longest) rank time ≡ BestRow rank time
@@ -24,11 +22,3 @@ module _ (highest longest rank time : ℕ) where
   pub shorter-loses : rank ≡ highest → time ≤ longest → better (BestRow highest longest) rank time ≡ BestRow highest longest
   unfolding better
   shorter-loses e h = rw (le-ltb highest rank (omega arith), le-ltb rank highest (omega arith), le-ltb longest time h)
-
--- four keys' points
-pub points : (from to : Riding) (a b c d : ℕ)
-    → a ≡ explicit anyCompany (from .company) 8 → b ≡ explicit anyMode (from .mode) 4
-    → c ≡ explicit anyCompany (to .company) 2 → d ≡ explicit anyMode (to .mode) 1
-    → a + b + c + d ≡ rank from to
-unfolding rank
-points from to a b c d p q r s = rw (p, q, r, s)

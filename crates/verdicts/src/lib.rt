@@ -8,11 +8,9 @@ use iff_desk::Source;
 use references::ANY_COMPANY;
 use references::ANY_MODE;
 ghost use mathlib.Core.Path.{_≡_};
-ghost use Prim.Native.Nat.{_≤_};
 ghost use lib.IntN.{pos};
 ghost use lib.Signed.{ltZ};
-ghost use Rattle.iff_desk.specs.Changing.{fitsKey, fits as fitsBoth, explicit as explicitOf, rank as rankOf, better as betterOf, settled as settledBy};
-ghost use Rattle.iff_desk.specs.Changing.{byTime, core as coreOf};
+ghost use Rattle.iff_desk.specs.Changing.{fitsKey, fits as fitsBoth, better as betterOf, settled as settledBy, byTime, core as coreOf};
 
 // A station's change time that is no reading: the most that two digits hold.
 const NO_STATION_TIME: u64 = 99;
@@ -40,27 +38,6 @@ pub fn fits(keys: Riding, r: Riding) -> bool
         return fits_key(ANY_MODE, keys.mode, r.mode);
     }
     false
-}
-
-// The points of a key: none for the wildcard.
-fn explicit(any: u64, key: u64, points: u64) -> u64
-    requires { ⌜ points ≤ 8 ⌝ }
-    ensures { λ r. ⌜ (r ≡ explicitOf any key points) × (r ≤ points) ⌝ }
-{
-    if key == any {
-        return 0;
-    }
-    points
-}
-
-// 8, 4, 2, 1 for an explicit from company, from mode, to company, to mode.
-pub fn rank(from: Riding, to: Riding) -> u64
-    ensures { λ r. ⌜ r ≡ rankOf from to ⌝ }
-{
-    explicit(ANY_COMPANY, from.company, 8)
-        + explicit(ANY_MODE, from.mode, 4)
-        + explicit(ANY_COMPANY, to.company, 2)
-        + explicit(ANY_MODE, to.mode, 1)
 }
 
 // The highest rank wins, then the larger time.

@@ -201,6 +201,14 @@ pub fn came_to(answered: &Answered) -> Option<CameTo> {
     }
 }
 
+/// The needed time, where it is that of an exception.
+pub fn by_exception(answered: &Answered) -> Option<u64> {
+    match answered {
+        Ok(Answer::Change(change)) if change.source == Some(Source::XChanges) => change.needed,
+        _ => None,
+    }
+}
+
 fn calls(times: &StopTimes) -> &'static str {
     match (times.arrival, times.departure) {
         (Some(_), Some(_)) => "arrival and departure",

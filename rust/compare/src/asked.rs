@@ -4,11 +4,11 @@
 use std::io;
 use std::ops::Range;
 
-use compare::answers::{came_to, outcome, soundness, Answer, Answered, Examined, Lent};
+use compare::answers::{by_exception, came_to, outcome, soundness, Answer, Answered, Examined, Lent};
 use compare::{by_second, junk, lengths_of, with_spare_words, Lengths, Tables};
-use deliveries::clocks;
 use deliveries::tables::{add_one, cut, damage_tables, delay, derive, other_words, rows, Limited, RowEdit};
-use deliveries::tally::{OF_CLOCKS, OF_QUESTIONS, OF_SOUNDNESS};
+use deliveries::tally::{OF_CLOCKS, OF_EXCEPTIONS, OF_QUESTIONS, OF_SOUNDNESS};
+use deliveries::{clocks, exceptions};
 use deliveries::{
     damage_file, large, limit, lines_in, mixed, name_in, of_each_sort, place, question, question_on_tables,
     Case, Limit, Outcomes, Question, Rng, World, FILES, NAMES,
@@ -77,13 +77,16 @@ pub struct Desk<'c> {
     pub questions: Outcomes,
     /// What stop times and changes told of clocks.
     pub clocks: Outcomes,
+    /// What changes told of exceptions.
+    pub exceptions: Outcomes,
     pub soundness: Outcomes,
 }
 
 impl<'c> Desk<'c> {
     pub fn new(comparison: &'c mut Comparison) -> Desk<'c> {
-        let [questions, clocks, soundness] = [OF_QUESTIONS, OF_CLOCKS, OF_SOUNDNESS].map(Outcomes::new);
-        Desk { comparison, questions, clocks, soundness }
+        let [questions, clocks, exceptions, soundness] =
+            [OF_QUESTIONS, OF_CLOCKS, OF_EXCEPTIONS, OF_SOUNDNESS].map(Outcomes::new);
+        Desk { comparison, questions, clocks, exceptions, soundness }
     }
 
     /// Asks of a delivery for each seed, of its tables damaged, and of damaged
@@ -254,6 +257,10 @@ impl<'c> Desk<'c> {
         self.questions.count(outcome(asked, &answered));
         if let Some(came_to) = came_to(&answered) {
             clocks::told(lent.tables, asked, came_to).into_iter().for_each(|told| self.clocks.count(told));
+        }
+        if let Some(needed) = by_exception(&answered) {
+            let told = exceptions::told(lent.tables, asked, needed);
+            told.into_iter().for_each(|told| self.exceptions.count(told));
         }
         Ok(answered)
     }

@@ -10,7 +10,7 @@ use compare::{
     amended_by_proved, amended_by_second, by_proved, by_second, junk, Files, Lengths, Outcome, Tables,
 };
 use deliveries::{folder, Amendment, Question, Rng, Tally, NAMES};
-use proved::Answer;
+use proved::{Answer, Keys};
 use second::encode::width;
 use second::sound::examine;
 use second::{zeroes, File};
@@ -132,6 +132,18 @@ impl Comparison {
                 fs::write(path.join("STATIONS"), lent.stations)?;
                 fs::write(path.join("TIMETBLS"), lent.timetbls)
             })?;
+        }
+        Ok(second)
+    }
+
+    /// Asks both programs for the rank of an exception. Answers what the second
+    /// program says.
+    pub fn compare_rank(&mut self, name: &str, keys: Keys) -> io::Result<u64> {
+        let Keys { from_company, from_mode, to_company, to_mode } = keys;
+        let second = second::rank(from_company, from_mode, to_company, to_mode);
+        let proved = answered(|| proved::rank(keys));
+        if proved != Some(second) {
+            self.note(name, |path| write_answers(path, &keys, &proved, &second))?;
         }
         Ok(second)
     }

@@ -8,9 +8,10 @@
 //! everything. Loads: deliveries of fixed seeds and of seeds that change with the
 //! date, every cause of every refusal, limits, large ones, ones with so many
 //! services that marks do not tell them apart, bytes replaced, files of the
-//! largest length. Questions: of a boat over the change of the clocks; of loaded
-//! and damaged tables and of texts, by such seeds; of tables with every word and
-//! row changed; of large ones.
+//! largest length. Questions: of a boat over the change of the clocks; the rank of
+//! every pattern of an exception's keys, and changes to which every two of them
+//! apply; of loaded and damaged tables and of texts, by such seeds; of tables with
+//! every word and row changed; of large ones.
 //! Amendments: up to twelve in a row by such seeds, of damaged tables, by every
 //! cause in a block, of large tables, by blocks of the largest length; each also
 //! held against the proved load of the edited text. Where the two differ, FOLDER
@@ -20,6 +21,7 @@ mod amended;
 mod asked;
 mod boat;
 mod bytes;
+mod card;
 mod caused;
 mod comparison;
 mod crowded;
@@ -49,8 +51,8 @@ const OFTEN: usize = 20;
 /// The same of questions: those of every run, and those new each day.
 const FIXED_QUESTIONS: Range<u64> = 0..2_500;
 const QUESTIONS_OF_TODAY: u64 = 250;
-/// Every outcome of a question and of soundness, and what is told of clocks, is
-/// met so often.
+/// Every outcome of a question and of soundness, and what is told of clocks and of
+/// exceptions, is met so often.
 const OUTCOMES_OFTEN: usize = 50;
 /// The same of amendments, in sequences.
 const FIXED_AMENDMENTS: Range<u64> = 0..700;
@@ -144,9 +146,10 @@ fn compare_loads(comparison: &mut Comparison) -> io::Result<Vec<String>> {
 fn compare_questions(comparison: &mut Comparison) -> io::Result<Vec<String>> {
     let start = Instant::now();
     let mut complaints = boat::compare_all(comparison)?;
+    complaints.extend(card::compare_all(comparison)?);
     let mut desk = Desk::new(comparison);
     desk.compare_seeds(FIXED_QUESTIONS, FULL)?;
-    for outcomes in [&desk.questions, &desk.clocks, &desk.soundness] {
+    for outcomes in [&desk.questions, &desk.clocks, &desk.exceptions, &desk.soundness] {
         complaints.extend(rare_outcomes(outcomes, OUTCOMES_OFTEN));
     }
     complaints.extend(desk.compare_limits()?);
@@ -214,6 +217,7 @@ fn odd_amendments(desk: amended::Desk) -> Vec<String> {
 fn print_desk(desk: &Desk) {
     println!("{} questions:\n{}", desk.questions.total(), desk.questions);
     println!("Of clocks, those of a time's own day beside the service day's:\n{}", desk.clocks);
+    println!("Of exceptions, which counts and what tells it from the others:\n{}", desk.exceptions);
     println!(
         "{} times soundness, by the rule that is broken first:\n{}",
         desk.soundness.total(),
@@ -227,7 +231,8 @@ fn rare_outcomes(outcomes: &Outcomes, often: usize) -> impl Iterator<Item = Stri
 }
 
 fn odd_questions(desk: &Desk) -> Vec<String> {
-    [&desk.questions, &desk.clocks, &desk.soundness].into_iter().flat_map(odd_outcomes).collect()
+    let all = [&desk.questions, &desk.clocks, &desk.exceptions, &desk.soundness];
+    all.into_iter().flat_map(odd_outcomes).collect()
 }
 
 /// The outcomes that the documents shut out.

@@ -57,12 +57,20 @@ pub fn overnight(seed: u64) -> (World, Case) {
     shaped(&mut rng, &shape)
 }
 
+/// A small sound delivery with changes to which several exceptions apply.
+pub fn excepted(seed: u64) -> (World, Case) {
+    let mut rng = Rng::new(seed);
+    let shape = Shape::excepted(&mut rng);
+    shaped(&mut rng, &shape)
+}
+
 /// A small sound delivery, each of these sorts in its turn.
 pub fn of_each_sort(seed: u64) -> (World, Case) {
-    match seed % 4 {
-        0 => at_borders(seed),
+    match seed % 8 {
+        0 | 4 => at_borders(seed),
         1 => full(seed),
-        2 => overnight(seed),
+        2 | 6 => overnight(seed),
+        5 => excepted(seed),
         _ => sound(seed),
     }
 }

@@ -11,6 +11,7 @@ pub mod cases;
 pub mod causes;
 pub mod clocks;
 mod damage;
+pub mod exceptions;
 mod fields;
 pub mod folder;
 mod many;
@@ -25,7 +26,8 @@ mod world;
 
 pub use amendments::{amendment, edited, Amendment};
 pub use cases::{
-    at_borders, crowded, damaged, large, limit, limits, mixed, of_each_sort, overnight, sound, Case, Limit,
+    at_borders, crowded, damaged, excepted, large, limit, limits, mixed, of_each_sort, overnight, sound,
+    Case, Limit,
 };
 pub use causes::{causes, Cause};
 pub use damage::{damage_file, TELLING_BYTES};

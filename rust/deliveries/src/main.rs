@@ -4,9 +4,9 @@ use std::env;
 use std::path::Path;
 use std::process::ExitCode;
 
-use deliveries::{damaged, folder, large, mixed, overnight, sound, Case};
+use deliveries::{damaged, excepted, folder, large, mixed, overnight, sound, Case};
 
-const USAGE: &str = "usage: deliveries sound|overnight|damaged|mixed SEED FOLDER
+const USAGE: &str = "usage: deliveries sound|overnight|excepted|damaged|mixed SEED FOLDER
        deliveries large SERVICES rising|shuffled SEED FOLDER";
 
 fn main() -> ExitCode {
@@ -28,6 +28,7 @@ fn asked<'a>(arguments: &[&'a str]) -> Option<(Case, &'a str)> {
     match *arguments {
         ["sound", seed, folder] => Some((sound(seed.parse().ok()?).1, folder)),
         ["overnight", seed, folder] => Some((overnight(seed.parse().ok()?).1, folder)),
+        ["excepted", seed, folder] => Some((excepted(seed.parse().ok()?).1, folder)),
         ["damaged", seed, folder] => Some((damaged(seed.parse().ok()?), folder)),
         ["mixed", seed, folder] => Some((mixed(seed.parse().ok()?), folder)),
         ["large", services, order @ ("rising" | "shuffled"), seed, folder] => {

@@ -153,6 +153,7 @@ fn few() -> Shape {
         rising: false,
         at_borders: false,
         overnight: false,
+        repeated: false,
         changes: true,
         xfootnotes: true,
         xchanges: true,

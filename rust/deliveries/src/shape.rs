@@ -30,6 +30,8 @@ pub struct Shape {
     /// Whether services run over midnight, often just up to it, while the clocks
     /// change: zones have periods of a day or two each.
     pub overnight: bool,
+    /// Whether exceptions often have the keys of one before, with another footnote.
+    pub repeated: bool,
     /// Whether the last three files are there at all.
     pub changes: bool,
     pub xfootnotes: bool,
@@ -56,6 +58,7 @@ impl Shape {
             rising: rng.percent(50),
             at_borders: false,
             overnight: false,
+            repeated: false,
             changes: rng.percent(70),
             xfootnotes: xchanges || rng.percent(30),
             xchanges,
@@ -74,6 +77,25 @@ impl Shape {
             stops: 4..=7,
             at_borders,
             overnight: true,
+            ..Shape::small(rng)
+        }
+    }
+
+    /// Few companies, modes, stations and services, and many exceptions, so that
+    /// several apply to one change.
+    pub fn excepted(rng: &mut Rng) -> Shape {
+        Shape {
+            companies: 1..=2,
+            modes: 1..=2,
+            stations: 2..=3,
+            special_footnotes: 2..=5,
+            services: 2..=4,
+            change_stations: 1..=3,
+            change_rows: 2..=10,
+            repeated: true,
+            changes: rng.percent(20),
+            xfootnotes: true,
+            xchanges: true,
             ..Shape::small(rng)
         }
     }
@@ -121,6 +143,7 @@ impl Shape {
             rising,
             at_borders: false,
             overnight: false,
+            repeated: false,
             changes: true,
             xfootnotes: true,
             xchanges: true,

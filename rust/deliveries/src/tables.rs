@@ -28,7 +28,9 @@ pub const GROUP: u64 = b'#' as u64;
 /// Bytes on both sides of what is allowed.
 const BESIDE_ALLOWED: [u8; 9] = [0x00, 0x1f, b' ', 0x7e, 0x7f, 0x80, 0x9f, 0xa0, 0xff];
 /// `*` and two blanks, packed.
-const ANY_COMPANY: u64 = 0x2a_20_20;
+pub const ANY_COMPANY: u64 = 0x2a_20_20;
+/// `*` and three blanks, packed.
+pub const ANY_MODE: u64 = 0x2a_20_20_20;
 
 pub fn is_stop(row: &[u64]) -> bool {
     b">.+<".iter().any(|&letter| row[0] == u64::from(letter))

@@ -176,6 +176,33 @@ pub const OF_CLOCKS: &[&str] = &[
     "change: refused 15 by both sides, the service days having periods",
 ];
 
+/// What changes can tell of exceptions: the pattern of the one that counts, by the
+/// desk's card, and what tells it from the others that apply.
+pub const OF_EXCEPTIONS: &[&str] = &[
+    "**** counts",
+    "***m counts",
+    "**c* counts",
+    "**cm counts",
+    "*m** counts",
+    "*m*m counts",
+    "*mc* counts",
+    "*mcm counts",
+    "c*** counts",
+    "c**m counts",
+    "c*c* counts",
+    "c*cm counts",
+    "cm** counts",
+    "cm*m counts",
+    "cmc* counts",
+    "cmcm counts",
+    "the only one that applies",
+    "a higher place with a smaller time",
+    "a higher place with a time as large",
+    "the same place, the larger time before",
+    "the same place, the larger time after",
+    "the same place and the same time",
+];
+
 /// What soundness can come to: the rule that the rows of tables break first. No
 /// table has more rows than room, and none made here is long enough for 1.
 pub const OF_SOUNDNESS: &[&str] = &[

@@ -498,23 +498,38 @@ fn write_xchanges(rng: &mut Rng, shape: &Shape, world: &World, file: &mut Lines)
         file.line(&[b"#", station]);
         let rows = rng.within(&shape.change_rows);
         let mut taken = HashSet::new();
+        let mut before: Vec<(Vec<u8>, usize)> = Vec::new();
         for _ in 0..rows {
-            let keys = xchange_keys(rng, world);
+            let (keys, time) = match shape.repeated && !before.is_empty() && rng.percent(40) {
+                true => again(rng, &before),
+                false => (xchange_keys(rng, world), None),
+            };
             let footnote = number(*rng.pick(&world.xfootnotes), 5);
             if taken.insert((keys.clone(), footnote.clone())) {
-                let time = match rng.below(100) {
-                    0..=14 => 999,
-                    15..=29 => 0,
-                    _ => match rng.below(40) {
-                        // Unsettled in STATIONS alone.
-                        39 => 99,
-                        38 => 998,
-                        minutes => minutes,
-                    },
-                };
+                let time = time.unwrap_or_else(|| xchange_time(rng));
                 file.line(&[b"-", &keys, b",", &number(time as u64, 3), b",", &footnote]);
+                before.push((keys, time));
             }
         }
+    }
+}
+
+/// The keys of an exception before, and perhaps its time.
+fn again(rng: &mut Rng, before: &[(Vec<u8>, usize)]) -> (Vec<u8>, Option<usize>) {
+    let (keys, time) = rng.pick(before).clone();
+    (keys, rng.percent(30).then_some(time))
+}
+
+fn xchange_time(rng: &mut Rng) -> usize {
+    match rng.below(100) {
+        0..=14 => 999,
+        15..=29 => 0,
+        _ => match rng.below(40) {
+            // Unsettled in STATIONS alone.
+            39 => 99,
+            38 => 998,
+            minutes => minutes,
+        },
     }
 }
 

@@ -8,12 +8,13 @@ use std::collections::BTreeMap;
 
 use common::outcome;
 use deliveries::clocks::{self, CameTo};
+use deliveries::exceptions;
 use deliveries::place::{STATIONS, TIMETBLS};
-use deliveries::tally::OF_CLOCKS;
+use deliveries::tally::{OF_CLOCKS, OF_EXCEPTIONS};
 use deliveries::{of_each_sort, question, Case, Outcomes, Question, Rng};
 use reckoned::Desk;
 use second::encode::width;
-use second::questions::{Side, Verdict};
+use second::questions::{Side, Source, Verdict};
 use second::{change, encode, lines_now, name, running_day, stop_time, File, Refusal, Store};
 
 /// A refusal of a question has a number and no place.
@@ -71,10 +72,19 @@ fn came_to(answer: &str) -> Option<CameTo> {
     }
 }
 
+/// The needed time of a change, where it comes from XCHANGES.
+fn by_exception(store: &Store, question: &Question) -> Option<u64> {
+    let Question::Change { from, to } = *question else { return None };
+    let side =
+        |side: deliveries::questions::Side| Side { service: side.service, stop: side.stop, date: side.date };
+    let change = change(store, side(from), side(to)).ok()?;
+    change.needed.filter(|_| change.source == Some(Source::XChanges)).map(u64::from)
+}
+
 #[test]
 fn questions_meet_every_answer() {
     let mut answers: BTreeMap<String, usize> = BTreeMap::new();
-    let mut clocks = Outcomes::new(OF_CLOCKS);
+    let [mut clocks, mut exceptions] = [OF_CLOCKS, OF_EXCEPTIONS].map(Outcomes::new);
     for seed in 0..2_000 {
         let (world, case) = of_each_sort(seed);
         let store = outcome(&case).unwrap();
@@ -86,11 +96,15 @@ fn questions_meet_every_answer() {
             let answer = ask_both_ways(&store, &case, &desk, &asked);
             let told = came_to(&answer).map(|came_to| clocks::told(&tables, &asked, came_to));
             told.into_iter().flatten().for_each(|told| clocks.count(told));
+            let told = by_exception(&store, &asked).map(|time| exceptions::told(&tables, &asked, time));
+            told.into_iter().flatten().for_each(|told| exceptions.count(told));
             *answers.entry(answer).or_default() += 1;
         }
     }
-    println!("{answers:#?}\n{clocks}");
-    assert!(clocks.rarer_than(20).is_empty() && clocks.unexpected().is_empty(), "{clocks}");
+    println!("{answers:#?}\n{clocks}\n{exceptions}");
+    for outcomes in [clocks, exceptions] {
+        assert!(outcomes.rarer_than(20).is_empty() && outcomes.unexpected().is_empty(), "{outcomes}");
+    }
     let expected = [
         "Unsettled by Stations",
         "Unsettled by XChanges",

@@ -176,6 +176,46 @@ pub struct Changed {
     pub from: Option<Side>,
     #[serde(skip_serializing_if = "Option::is_none")]
     pub to: Option<Side>,
+    /// Where the needed time is that of XCHANGES: the exceptions that apply, and why
+    /// the first of them counts.
+    #[serde(skip_serializing_if = "Option::is_none")]
+    pub exceptions: Option<Vec<Exception>>,
+    #[serde(skip_serializing_if = "Option::is_none")]
+    pub because: Option<&'static str>,
+}
+
+/// An exception that applies to a change; its keys are as they were written.
+#[derive(Serialize)]
+pub struct Exception {
+    pub line: u64,
+    pub from_company: String,
+    pub from_mode: String,
+    pub to_company: String,
+    pub to_mode: String,
+    pub time: u64,
+    pub footnote: u64,
+    pub pattern: String,
+    pub place: u64,
+    pub counts: bool,
+}
+
+/// The desk's card.
+#[derive(Serialize)]
+pub struct Card {
+    pub card: Vec<CardEntry>,
+    pub rule: &'static str,
+}
+
+/// A pattern on the card: which keys are named.
+#[derive(Serialize)]
+pub struct CardEntry {
+    pub place: u64,
+    pub pattern: String,
+    pub from_company: bool,
+    pub from_mode: bool,
+    pub to_company: bool,
+    pub to_mode: bool,
+    pub meaning: String,
 }
 
 /// One side of a change, where it is at.
@@ -205,6 +245,8 @@ impl Changed {
             needed: change.needed,
             from: None,
             to: None,
+            exceptions: None,
+            because: None,
         }
     }
 }

@@ -9,7 +9,8 @@ use std::thread::{self, Builder};
 use proved::{Refusal, Side};
 use serde::Serialize;
 
-use crate::answers::{json, Accepted, Changed, Error, Refused, Runs, Stop, TextLines};
+use crate::answers::{json, Accepted, Error, Refused, Runs, Stop, TextLines};
+use crate::card;
 use crate::commands::{name_of, read_block};
 use crate::dates::number_of_any_size;
 use crate::files::latin;
@@ -43,7 +44,12 @@ impl Question<'_> {
             Question::Stop { service, stop, date } => {
                 json(&Stop::of(&proved::stop_time(tables.lent(), service, stop, date)?, date))
             }
-            Question::Change { from, to } => json(&Changed::of(&proved::change(tables.lent(), from, to)?)),
+            Question::Change { from, to } => {
+                let change = proved::change(tables.lent(), from, to)?;
+                let services = || [from, to].map(|side| tables.service(side.service));
+                let reasoned = card::reasoned(&change, || card::applied(tables, services(), from, to));
+                json(&card::changed(&change, reasoned.as_ref()))
+            }
             Question::Name(_) | Question::Lines(_) | Question::Amend { .. } => String::new(),
         })
     }

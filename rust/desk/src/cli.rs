@@ -73,6 +73,8 @@ Example:
     #[command(after_help = "\
 The first service is left at its stop (2 or later) on its date, the second is boarded at its
 stop (any but the last) on its date. A date is that of the service's first departure.
+Where the needed time is that of XCHANGES, the exceptions that apply are shown with their
+places on the desk's card (calyxcabin card), and why one of them counts.
 Exit status: 0 Yes, 3 No, 4 Unsettled, 1 refused.
 
 Example:
@@ -192,6 +194,14 @@ Example:
         /// The file with the block
         file: PathBuf,
     },
+    /// Show the desk's card: which exception of XCHANGES counts
+    #[command(after_help = "\
+Sixteen patterns with their places, from all wildcards to none: of the exceptions that apply to
+a change, the one with the highest place counts. `change` tells the places of those that apply.
+
+Example:
+  calyxcabin card")]
+    Card,
     /// Answer questions from standard input, one JSON object a line
     #[command(after_help = "\
 Questions, dates as DDMMYYYY:

@@ -6,6 +6,7 @@ use std::path::Path;
 use proved::{Answer, Change, Reason, Refusal, Running, Side, Source, Verdict};
 
 use crate::answers::{self, json, Accepted, Changed, Name, Refused, Runs, TextLines};
+use crate::card;
 use crate::cli::Command;
 use crate::dates::{self, clock, date, time_on};
 use crate::explain::questions::{packed, question, Asked};
@@ -100,6 +101,7 @@ impl Desk {
             Command::Station { store, code } => self.station(store, code),
             &Command::Lines { ref store, service } => self.lines(store, service),
             &Command::Amend { ref store, service, ref file } => self.amend(store, service, file),
+            Command::Card => card(),
             // They write as they go (main).
             Command::Ask { .. } | Command::Completions { .. } => Ok(Told::new(DONE, "", String::new())),
         }
@@ -245,10 +247,15 @@ impl Desk {
 
     fn change(&self, root: &Path, from: Side, to: Side) -> Result<Told, Trouble> {
         let mut store = self.read(root)?;
-        let (answer, stops) = store.ask_beside(
+        let (answer, (stops, exceptions)) = store.ask_beside(
             &self.progress,
             |tables| proved::change(tables.lent(), from, to),
-            |tables| [from, to].map(|side| tables.stop(side.service, side.stop)),
+            |tables| {
+                let services = [from, to].map(|side| tables.service(side.service));
+                let stops = [(services[0], from), (services[1], to)]
+                    .map(|(service, side)| service.and_then(|service| service.stop(side.stop)));
+                (stops, card::applied(tables, services, from, to))
+            },
         )?;
         let change = match answer {
             Ok(change) => change,
@@ -292,6 +299,10 @@ impl Desk {
                 .map_or("none: it may not be made".into(), |needed| dates::length(needed as i64));
             text += &format!("  needed  {needed}, by {}\n", source_name(source));
         }
+        let reasoned = card::reasoned(&change, || exceptions);
+        if let Some(reasoned) = &reasoned {
+            text += &reasoned.text(left.station);
+        }
         let told = |side: Side, station: u64, local: Option<i64>| {
             Some(answers::Side {
                 station: latin(&unpack(station, 7)),
@@ -303,7 +314,7 @@ impl Desk {
         let changed = Changed {
             from: told(from, left.station, arrival),
             to: told(to, boarded.station, departure),
-            ..Changed::of(&change)
+            ..card::changed(&change, reasoned.as_ref())
         };
         Ok(Told::new(status, text, json(&changed)))
     }
@@ -399,6 +410,12 @@ impl Desk {
             json(&Accepted { amendment: Some(store.amendments), ..Accepted::of(&answer) }),
         ))
     }
+}
+
+/// The desk's card, which no store is asked for.
+fn card() -> Result<Told, Trouble> {
+    let card = card::card()?;
+    Ok(Told::new(DONE, card::card_text(&card), json(&card::card_answer(&card))))
 }
 
 /// Who calls at a station.

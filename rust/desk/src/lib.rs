@@ -5,6 +5,7 @@
 
 mod answers;
 mod ask;
+mod card;
 mod cli;
 mod commands;
 mod dates;

@@ -2,6 +2,7 @@
 //! (docs/TABLES.md). Rows may be looked at in any tables; what was found there is
 //! shown where the tables are found sound.
 
+use std::collections::HashSet;
 use std::ops::{Deref, DerefMut};
 
 use memmap2::MmapMut;
@@ -188,9 +189,22 @@ impl Tables {
         let mut rows = self.rows(FOOTNOTE).skip(1);
         rows.find(|row| row[0] == u64::from(b'#') && row[1] == footnote)?;
         let vector = rows.next()?;
-        let has = |day: usize| vector.get(1 + day / 64).is_some_and(|word| word >> (day % 64) & 1 == 1);
-        Some((0..days).map(has).collect())
+        Some((0..days).map(|day| has(vector, day)).collect())
     }
+
+    /// The footnotes of FOOTNOTE or XFOOTNOTE that have 1 on a day, counted from the
+    /// first.
+    pub fn marked_on(&self, file: usize, day: usize) -> HashSet<u64> {
+        // A vector stands behind its `#`.
+        let pairs = self.rows(file).zip(self.rows(file).skip(1));
+        let marked = pairs.filter(|(row, vector)| row[0] == u64::from(b'#') && has(vector, day));
+        marked.map(|(row, _)| row[1]).collect()
+    }
+}
+
+/// Whether a vector's row has 1 on a day.
+fn has(vector: &[u64], day: usize) -> bool {
+    vector.get(1 + day / 64).is_some_and(|word| word >> (day % 64) & 1 == 1)
 }
 
 impl<'a> Service<'a> {

@@ -4,6 +4,7 @@ mod common;
 
 use std::ffi::OsStr;
 use std::fs;
+use std::path::Path;
 
 use common::*;
 use serde_json::json;
@@ -113,6 +114,173 @@ fn exceptions_may_be_unsettled() {
         line("open {} {}", &[&delivery, &store]).is(0, "Accepted");
         line("change {} 2 2 14122015 6 1 16122015", &[&store]).is(status, told).is(status, "by XCHANGES");
     }
+}
+
+/// The card as the desk has it.
+const CARD: [&str; 16] = [
+    " 0  ****  names nothing",
+    " 1  ***m  names the to mode",
+    " 2  **c*  names the to company",
+    " 3  **cm  names the to company and the to mode",
+    " 4  *m**  names the from mode",
+    " 5  *m*m  names the from mode and the to mode",
+    " 6  *mc*  names the from mode and the to company",
+    " 7  *mcm  names the from mode, the to company and the to mode",
+    " 8  c***  names the from company",
+    " 9  c**m  names the from company and the to mode",
+    "10  c*c*  names the from company and the to company",
+    "11  c*cm  names the from company, the to company and the to mode",
+    "12  cm**  names the from company and the from mode",
+    "13  cm*m  names the from company, the from mode and the to mode",
+    "14  cmc*  names the from company, the from mode and the to company",
+    "15  cmcm  names the from company, the from mode, the to company and the to mode",
+];
+
+#[test]
+fn the_card_is_shown() {
+    let expected = format!(
+        "\
+The desk's card: which exception of XCHANGES counts before which
+A pattern tells from company, from mode, to company, to mode: c and m are named, * is any.
+From is the service that one leaves, on the leg before the change; to is the one boarded, on the leg after it.
+
+{}
+
+Of the exceptions that apply to a change, the one with the highest place counts, whatever the times; with the same place, the one with the larger time.
+",
+        CARD.join("\n")
+    );
+    let said = run(["card"]);
+    assert_eq!((said.status, said.out.as_str(), said.err.as_str()), (Some(0), expected.as_str(), ""));
+    let said = run(["card", "--json"]);
+    assert_eq!((said.status, said.out.lines().count()), (Some(0), 1));
+    let told = said.json();
+    let entries = told["card"].as_array().unwrap();
+    assert_eq!(entries.len(), 16);
+    for (place, (entry, line)) in entries.iter().zip(CARD).enumerate() {
+        let (pattern, meaning) = (&line[4..8], &line[10..]);
+        let named = |at: usize| !pattern[at..].starts_with('*');
+        let expected = json!({
+            "place": place,
+            "pattern": pattern,
+            "from_company": named(0),
+            "from_mode": named(1),
+            "to_company": named(2),
+            "to_mode": named(3),
+            "meaning": meaning,
+        });
+        assert_eq!(*entry, expected);
+    }
+    assert!(told["rule"].as_str().unwrap().contains("highest place counts"));
+    run(["card", "store"]).is(2, "Usage: calyxcabin card");
+}
+
+/// docs/CARD.md has the same sixteen lines, each of them once, and a change as it is
+/// answered.
+#[test]
+fn the_card_in_the_documents_is_the_programs() {
+    let page = Path::new(env!("CARGO_MANIFEST_DIR")).join("../../docs/CARD.md");
+    let page = fs::read_to_string(page).unwrap();
+    let lines_of = |text: &str| -> Vec<String> {
+        let is_entry = |line: &&str| {
+            let mut words = line.split_whitespace();
+            words.next().is_some_and(|word| word.bytes().all(|byte| byte.is_ascii_digit()))
+                && words
+                    .next()
+                    .is_some_and(|word| word.len() == 4 && word.chars().all(|letter| "cm*".contains(letter)))
+        };
+        text.lines().filter(is_entry).map(String::from).collect()
+    };
+    let shown = lines_of(&run(["card"]).out);
+    assert_eq!(shown.len(), 16);
+    assert_eq!(lines_of(&page), shown);
+    // The supplier's question is answered as the page has it.
+    let folder = folder("supplier");
+    let said = line("change {} 2 2 2015-12-14 6 1 2015-12-15", &[&opened(&folder)]);
+    assert!(page.contains(&said.out), "{said:#?}");
+}
+
+/// From the boat (100, SHIP) to a Sprinter (200, SPR) two exceptions apply.
+#[test]
+fn exceptions_are_told_with_their_places() {
+    let folder = folder("places");
+    let store = opened(&folder);
+    let ask_for = |words: &str| line(&format!("change {{}} {words}"), &[&store]);
+    let no = "\
+No: the gap of 37 is below the needed time of 45.
+  leave   service 00000002 at stop 2, HVH Hoek van Holland Haven: arrives 08:00 on Tue 15 Dec 2015 (32:00 of service day 14 Dec 2015)
+  board   service 00000006 at stop 1, HVH Hoek van Holland Haven: departs 08:37 on Tue 15 Dec 2015
+  gap     37 minutes
+  needed  45 minutes, by XCHANGES
+  card    place 14 counts before place 3, whatever the times:
+          line 3  100,SHIP,200,*   ,045,00001  place 14 (cmc*)  45 minutes, which counts
+          line 4  *  ,*   ,200,SPR ,020,00001  place  3 (**cm)  20 minutes
+";
+    let said = ask_for("2 2 14122015 6 1 15122015");
+    assert_eq!((said.status, said.out.as_str(), said.err.as_str()), (Some(3), no, ""));
+    let boat = json!({
+        "line": 3, "from_company": "100", "from_mode": "SHIP", "to_company": "200", "to_mode": "*   ",
+        "time": 45, "footnote": 1, "pattern": "cmc*", "place": 14, "counts": true,
+    });
+    let sprinter = json!({
+        "line": 4, "from_company": "*  ", "from_mode": "*   ", "to_company": "200", "to_mode": "SPR ",
+        "time": 20, "footnote": 1, "pattern": "**cm", "place": 3, "counts": false,
+    });
+    let told = ask_for("2 2 14122015 6 1 15122015 --json").json();
+    assert_eq!(told["exceptions"], json!([boat, sprinter]));
+    assert_eq!(told["because"], json!("higher-place"));
+    assert_eq!([&told["change"], &told["needed"], &told["gap"]], [&json!("no"), &json!(45), &json!(37)]);
+    let asked = answers(&ask(&store, "change 2 2 14122015 6 1 15122015\nchange 1 2 14122015 3 1 15122015\n"));
+    let expected = json!({
+        "change": "no", "reason": "gap-below-needed", "gap": 37, "source": "xchanges", "needed": 45,
+        "exceptions": [boat, sprinter], "because": "higher-place",
+    });
+    assert_eq!(asked[0], expected);
+    // A Yes is told likewise; from a Sprinter to a Sprinter one exception applies.
+    ask_for("2 2 14122015 6 1 16122015").is(0, "counts before place 3, whatever the times:\n");
+    ask_for("5 3 14122015 6 1 15122015").is(
+        0,
+        "  needed  20 minutes, by XCHANGES
+  card    only one exception applies:
+          line 4  *  ,*   ,200,SPR ,020,00001  place  3 (**cm)  20 minutes, which counts
+",
+    );
+    // What does not rest on XCHANGES has no reason beside it.
+    for words in ["1 2 14122015 3 1 15122015", "5 3 14122015 1 1 14122015", "1 2 14122015 5 1 15122015"] {
+        assert!(!ask_for(words).out.contains("  card  "));
+        let told = ask_for(&format!("{words} --json")).json();
+        assert!(told.get("exceptions").is_none() && told.get("because").is_none(), "{told}");
+    }
+    assert!(asked[1].get("exceptions").is_none() && asked[1].get("because").is_none());
+}
+
+/// With the same place the larger time counts, and 999 is one.
+#[test]
+fn exceptions_of_one_place_are_told() {
+    let folder = folder("one place");
+    let delivery = folder.join("delivery");
+    copy(&example(), &delivery);
+    let text = fs::read(delivery.join("XFOOTNOTE")).unwrap();
+    let vector = String::from_utf8(text.clone()).unwrap().lines().nth(2).unwrap().to_string();
+    fs::write(delivery.join("XFOOTNOTE"), [&text[..], b"#00002\r\n", vector.as_bytes(), b"\r\n"].concat())
+        .unwrap();
+    let text = fs::read(delivery.join("XCHANGES")).unwrap();
+    fs::write(delivery.join("XCHANGES"), [&text[..], b"-100,SHIP,200,*   ,999,00002\r\n"].concat()).unwrap();
+    let store = folder.join("store");
+    line("open {} {}", &[&delivery, &store]).is(0, "Accepted");
+    let why = "  needed  999 minutes (16 h 39), by XCHANGES
+  card    lines 3 and 5 have the same place 14, the highest, and the larger time counts:
+          line 5  100,SHIP,200,*   ,999,00002  place 14 (cmc*)  999 minutes (16 h 39), which counts
+          line 3  100,SHIP,200,*   ,045,00001  place 14 (cmc*)  45 minutes
+          line 4  *  ,*   ,200,SPR ,020,00001  place  3 (**cm)  20 minutes
+";
+    let said = line("change {} 2 2 14122015 6 1 16122015", &[&store]);
+    said.is(4, "Unsettled").is(4, why);
+    let told = line("change {} 2 2 14122015 6 1 16122015 --json", &[&store]).json();
+    assert_eq!(told["because"], json!("larger-time"));
+    let lines: Vec<&serde_json::Value> =
+        told["exceptions"].as_array().unwrap().iter().map(|row| &row["line"]).collect();
+    assert_eq!(json!(lines), json!([5, 3, 4]));
 }
 
 #[test]
@@ -435,6 +603,7 @@ fn help_and_spelling() {
         "station",
         "lines",
         "amend",
+        "card",
         "ask",
         "completions",
     ] {

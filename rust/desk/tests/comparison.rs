@@ -2,17 +2,22 @@
 
 mod common;
 
+use std::cmp::Reverse;
 use std::collections::BTreeMap;
 use std::fs;
 use std::path::Path;
 
 use common::*;
 use deliveries::place::{STATIONS, TIMETBLS};
+use deliveries::questions::Side;
+use deliveries::tables::ANY_COMPANY;
 use deliveries::{
-    amendment, calendar, folder as write_folder, of_each_sort, question_on_tables, Amendment, Question, Rng,
-    World,
+    amendment, calendar, excepted, exceptions, folder as write_folder, of_each_sort, question_on_tables,
+    Amendment, Question, Rng, World,
 };
+use second::encode::width;
 use second::questions::{Change, Reason, Source, Verdict};
+use second::File;
 use serde_json::{json, Map, Value};
 
 const DELIVERIES: u64 = 150;
@@ -83,9 +88,47 @@ fn change(change: Change) -> Value {
     told.into()
 }
 
+/// The exceptions of a change whose needed time is that of XCHANGES, and why the
+/// first of them counts.
+fn reason(store: &second::Store, rooms: &[usize; 11], from: Side, to: Side) -> [(String, Value); 2] {
+    let lengths = File::ALL.map(|file| rooms[file.index()] * width(file));
+    let mut applied = exceptions::applied(&second::encode(store, &lengths), from, to).expect("exceptions");
+    let place = |[from_company, from_mode, to_company, to_mode]: [u64; 4]| {
+        second::rank(from_company, from_mode, to_company, to_mode)
+    };
+    applied.sort_by_key(|row| (Reverse(place(row.keys)), Reverse(row.time), row.line));
+    let beside: Vec<u64> =
+        applied.iter().filter(|row| place(row.keys) == place(applied[0].keys)).map(|row| row.time).collect();
+    let because = match beside[..] {
+        [_] if applied.len() == 1 => "only",
+        [_] => "higher-place",
+        [first, .., last] if first == last => "same-time",
+        _ => "larger-time",
+    };
+    let company = |key: u64| if key == ANY_COMPANY { "*  ".into() } else { format!("{key:03}") };
+    let mode = |key: u64| latin(&key.to_be_bytes()[4..]);
+    let told = applied.iter().zip(0..).map(|(row, at)| {
+        let [from_company, from_mode, to_company, to_mode] = row.keys;
+        json!({
+            "line": row.line,
+            "from_company": company(from_company),
+            "from_mode": mode(from_mode),
+            "to_company": company(to_company),
+            "to_mode": mode(to_mode),
+            "time": row.time,
+            "footnote": row.footnote,
+            "pattern": row.pattern(),
+            "place": place(row.keys),
+            "counts": at == 0,
+        })
+    });
+    [("exceptions".into(), told.collect()), ("because".into(), because.into())]
+}
+
 /// A desk of the second program: its store and the blocks that it accepted.
 struct Other<'a> {
     store: second::Store,
+    rooms: [usize; 11],
     files: &'a [Vec<u8>; 11],
     blocks: BTreeMap<u64, Vec<u8>>,
 }
@@ -178,7 +221,15 @@ fn question(
                 let answer = second::change(&other.store, side(a), side(b));
                 let asked =
                     format!("change {} {} {} {} {} {}", a.service, a.stop, a.date, b.service, b.stop, b.date);
-                (asked, answered(answer.map(change)))
+                let told = answer.map(|answer| {
+                    let mut told = change(answer);
+                    if answer.source == Some(Source::XChanges) {
+                        let reason = reason(&other.store, &other.rooms, a, b);
+                        told.as_object_mut().expect("an object").extend(reason);
+                    }
+                    told
+                });
+                (asked, answered(told))
             }
             other => unreachable!("{other:?} is not asked of tables"),
         },
@@ -190,7 +241,8 @@ fn ask_answers_as_the_second_program_does() {
     let folder = folder("comparison");
     let mut met: BTreeMap<String, usize> = BTreeMap::new();
     for seed in 0..DELIVERIES {
-        let (world, case) = of_each_sort(seed);
+        // Exceptions beat one another in more ways than the other sorts meet.
+        let (world, case) = if seed % 3 == 0 { excepted(seed) } else { of_each_sort(seed) };
         let delivery = folder.join(format!("delivery {seed}"));
         write_folder::write(&case.texts(), &delivery).unwrap();
         let mut rng = Rng::new(seed ^ 0xA5C);
@@ -199,7 +251,7 @@ fn ask_answers_as_the_second_program_does() {
         line(&format!("open {{}} {{}} --spare {spare}"), &[&delivery, &store]).is(0, "Accepted");
         let rooms = case.texts().map(|text| second::count_lines(text) + spare);
         let held = second::load(&case.texts(), &rooms).expect("a sound delivery");
-        let mut other = Other { store: held, files: &case.files, blocks: BTreeMap::new() };
+        let mut other = Other { store: held, rooms, files: &case.files, blocks: BTreeMap::new() };
         let asked: Vec<(String, Value)> =
             (0..QUESTIONS).map(|number| question(&mut rng, &world, &mut other, &folder, number)).collect();
         // Blocks are written anew for each delivery, so each is asked at once.
@@ -213,9 +265,13 @@ fn ask_answers_as_the_second_program_does() {
             let first = expected.as_object().unwrap().iter().next().unwrap();
             let kind = match first.0.as_str() {
                 "refused" => format!("refused {}", first.1["number"]),
+                "because" => "change".to_string(),
                 key => key.to_string(),
             };
             *met.entry(format!("{} {kind}", line.split(' ').next().unwrap())).or_default() += 1;
+            if let Some(because) = expected.get("because").and_then(Value::as_str) {
+                *met.entry(format!("because {because}")).or_default() += 1;
+            }
         }
         // The tables made again from delivery and journal are the very same.
         let tables = store.join("1/tables");
@@ -235,6 +291,10 @@ fn ask_answers_as_the_second_program_does() {
         "amend refused 2",
         "change change",
         "change refused 14",
+        "because only",
+        "because higher-place",
+        "because larger-time",
+        "because same-time",
         "stop arrival",
         "runs runs",
         "name name",

@@ -16,7 +16,7 @@ use std::io::{self, BufWriter, Read, Write};
 use std::process::{Child, ChildStdin, ChildStdout, Command, Stdio};
 use std::sync::{Mutex, PoisonError};
 
-use crate::{AmendedTables, Files, LentTables, Side, Tables, Words};
+use crate::{AmendedTables, Files, Keys, LentTables, Side, Tables, Words};
 
 const WORD: usize = size_of::<u64>();
 
@@ -45,6 +45,7 @@ enum Call {
     Name,
     LinesNow,
     Amend,
+    Rank,
 }
 
 pub fn load(files: Files, tables: Tables, answer: &mut Words) {
@@ -83,6 +84,13 @@ pub fn name(stations: &[u8], short: u64, answer: &mut [u64; 3]) {
 
 pub fn lines_now(text: &[u8], block: &[u8], service: u64, answer: &mut [u64; 4]) {
     ask(Call::LinesNow, &[text, block], &[service], answer, &mut [])
+}
+
+pub fn rank(keys: Keys) -> u64 {
+    let mut answer = [u64::MAX];
+    let numbers = [keys.from_company, keys.from_mode, keys.to_company, keys.to_mode];
+    ask(Call::Rank, &[], &numbers, &mut answer, &mut []);
+    answer[0]
 }
 
 pub fn amend(tables: AmendedTables, service: u64, block: &[u8], answer: &mut Words) {

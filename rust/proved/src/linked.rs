@@ -1,6 +1,6 @@
 //! The functions of the archive that this program is linked with.
 
-use crate::{AmendedTables, Files, LentTables, Side, Tables, Words};
+use crate::{AmendedTables, Files, Keys, LentTables, Side, Tables, Words};
 
 /// Calls a function of the archive: what is only read comes first, then what is
 /// written, perhaps more of both, each slice as a pointer and a length, then all
@@ -104,6 +104,12 @@ pub fn name(stations: &[u8], short: u64, answer: &mut [u64; 3]) {
 
 pub fn lines_now(text: &[u8], block: &[u8], service: u64, answer: &mut [u64; 4]) {
     call!(calyxcabin_lines_now(read text block, written; service, answer))
+}
+
+pub fn rank(keys: Keys) -> u64 {
+    let Keys { from_company, from_mode, to_company, to_mode } = keys;
+    // SAFETY: four numbers are handed over and one comes back.
+    unsafe { calyxcabin_rank(from_company, from_mode, to_company, to_mode) }
 }
 
 extern "C" {
@@ -311,4 +317,6 @@ extern "C" {
         service: u64,
         answer: *mut [u64; 4],
     );
+
+    fn calyxcabin_rank(from_company: u64, from_mode: u64, to_company: u64, to_mode: u64) -> u64;
 }

@@ -94,6 +94,19 @@ pub enum Source {
     XChanges,
 }
 
+/// The four keys of an exception as the table of XCHANGES holds them (docs/TABLES.md):
+/// a company's number or the packed field `*` and two blanks, a mode's packed field.
+#[derive(Clone, Copy, Debug, PartialEq, Eq)]
+pub struct Keys {
+    pub from_company: u64,
+    pub from_mode: u64,
+    pub to_company: u64,
+    pub to_mode: u64,
+}
+
+/// How many patterns stand on the desk's card.
+pub const PATTERNS: u64 = 16;
+
 /// Whether eleven tables are sound: what a load could have left.
 pub fn is_sound(tables: [&[u64]; FILES]) -> bool {
     let number = archive::is_sound(tables);
@@ -194,6 +207,13 @@ fn source_of(word: u64) -> Option<Option<Source>> {
         3 => Some(Source::XChanges),
         _ => return None,
     })
+}
+
+/// The rank of an exception: the place of its keys' pattern on the desk's card, from
+/// 0, all wildcards, to 15, none. Nothing is asked of the keys.
+pub fn rank(keys: Keys) -> u64 {
+    let place = archive::rank(keys);
+    by_contract((place < PATTERNS).then_some(place), place)
 }
 
 /// The name of the first row of a STATIONS file with this packed short name, a

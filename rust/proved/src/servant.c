@@ -9,7 +9,7 @@ enum { FILES = 11, TIMETBLS = 7, ANSWER = 6, NUMBERS = 6, WORDS = 7, MINUTES = 4
 // Those of a call that is no load: eleven tables and a block.
 enum { BLOCK = 11, SLICES = 12 };
 // The calls by number, as `emulated.rs` has them.
-enum { LOAD, IS_SOUND, RUNNING_DAY, STOP_TIME, CHANGE, NAME, LINES_NOW, AMEND };
+enum { LOAD, IS_SOUND, RUNNING_DAY, STOP_TIME, CHANGE, NAME, LINES_NOW, AMEND, RANK };
 enum { READ = 0, WRITE = 1, MMAP = 9, MUNMAP = 11, EXIT = 60, PRCTL = 157 };
 enum { SIGNAL_WHEN_THE_PARENT_DIES = 1, KILL = 9 };
 enum { READ_AND_WRITE = 3, PRIVATE_AND_OF_NO_FILE = 0x22 };
@@ -48,6 +48,8 @@ void calyxcabin_amend(
     const u64 *, u64, const u64 *, u64, const u64 *, u64, const u64 *, u64, const u64 *, u64, const u64 *, u64,
     const u64 *, u64, u64 *, u64, const u64 *, u64, const u64 *, u64, const u64 *, u64,
     u64, const u8 *, u64, u64 *);
+
+u64 calyxcabin_rank(u64, u64, u64, u64);
 
 static long system_call(long number, long a, long b, long c, long d, long e, long f)
 {
@@ -225,6 +227,9 @@ static void ask_one(u64 call)
         break;
     case AMEND:
         calyxcabin_amend(TABLES, q[0], f[BLOCK], bytes[BLOCK], w);
+        break;
+    case RANK:
+        w[0] = calyxcabin_rank(q[0], q[1], q[2], q[3]);
         break;
     default:
         leave(3);

@@ -10,9 +10,9 @@ const WIDTHS: [usize; FILES] = [6, 6, 6, 6, 6, 6, 14, 7, 6, 14, 7];
 /// The first word of a row without a record letter.
 pub(crate) const NO_LETTER: u64 = 1;
 /// `*` and two blanks, packed.
-const ANY_COMPANY: u64 = 0x2a_20_20;
+pub(crate) const ANY_COMPANY: u64 = 0x2a_20_20;
 /// `*` and three blanks, packed.
-const ANY_MODE: u64 = 0x2a_20_20_20;
+pub(crate) const ANY_MODE: u64 = 0x2a_20_20_20;
 
 pub fn width(file: File) -> usize {
     WIDTHS[file.index()]

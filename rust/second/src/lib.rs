@@ -1,5 +1,5 @@
-//! A second reading of document 01, with request W2 of document 02: IFF 4.2.4
-//! deliveries at the connections desk.
+//! A second reading of document 01, with requests W2 and W3 of document 02: IFF
+//! 4.2.4 deliveries at the connections desk.
 //!
 //! A delivery of eleven files is loaded into a [`Store`] or refused with a
 //! number and a place. A store takes amendments of single services and answers
@@ -8,6 +8,7 @@
 //! can be compared word by word.
 
 pub mod amend;
+pub mod card;
 mod columns;
 pub mod encode;
 pub mod files;
@@ -25,6 +26,7 @@ mod timetbls;
 mod values;
 
 pub use amend::amend;
+pub use card::rank;
 pub use encode::{encode, rooms_of, zeroes};
 pub use files::File;
 pub use lines::count as count_lines;

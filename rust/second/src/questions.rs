@@ -1,6 +1,7 @@
 //! The desk's questions.
 
 use crate::amend::{is_one_block, opens};
+use crate::card;
 use crate::columns::columns;
 use crate::lines::Lines;
 use crate::refusals::{Fault, Refusal};
@@ -206,7 +207,8 @@ fn needed(store: &Store, from: &Ride, to: &Ride) -> Needed {
     }
 }
 
-/// The time of the best row: the highest rank, then the larger time.
+/// The time of the best row: the highest place on the desk's card, then the
+/// larger time.
 fn best_xchange(store: &Store, from: &Ride, to: &Ride) -> Option<u16> {
     let (xchanges, xfootnotes) = store.xchanges.as_ref().zip(store.xfootnotes.as_ref())?;
     let place = xchanges.find(store.stations.row(from.stop.station).short_name)?;
@@ -218,7 +220,7 @@ fn best_xchange(store: &Store, from: &Ride, to: &Ride) -> Option<u16> {
     };
     let applies = |row: &&XChange| keys.fit(row) && xfootnotes.row(row.footnote).vector.has(from.offset);
     let rows = xchanges.row(place).rows.iter();
-    rows.filter(applies).map(|row| (rank(row), row.time)).max().map(|(_, time)| time)
+    rows.filter(applies).map(|row| (card::place(named(row)), row.time)).max().map(|(_, time)| time)
 }
 
 /// The companies and modes of the two services on the legs of the change.
@@ -238,11 +240,9 @@ impl Keys {
     }
 }
 
-fn rank(row: &XChange) -> u8 {
-    8 * u8::from(row.from_company.is_some())
-        + 4 * u8::from(row.from_mode.is_some())
-        + 2 * u8::from(row.to_company.is_some())
-        + u8::from(row.to_mode.is_some())
+/// Which of a row's four keys are named, and no wildcards.
+fn named(row: &XChange) -> [bool; 4] {
+    [row.from_company.is_some(), row.from_mode.is_some(), row.to_company.is_some(), row.to_mode.is_some()]
 }
 
 /// The name, columns 44 to 73, of the first row of STATIONS with this packed
