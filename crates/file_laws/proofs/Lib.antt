@@ -1,3 +1,2 @@
 pub mod RowLaws
 pub mod ContextLaws
-pub mod LoadLaw

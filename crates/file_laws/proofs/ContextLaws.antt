@@ -17,10 +17,10 @@ use Rattle.iff.specs.declared.Verdict.{Verdict}
 use Rattle.iff.specs.declared.Verdict.the-variants.{Fine, Fault}
 use Rattle.iff_rules.specs.References.{metByRow, metInGroup, metInBlock}
 use Rattle.iff_rules.specs.Rows.{Context}
-use Rattle.iff_rules.specs.Load.{plainTest, plainVerdict, groupTest, groupVerdict, groupsVerdict, blockTest, blockVerdict, timetblsVerdict, fileVerdict}
+use Rattle.iff_rules.specs.Load.{plainTest, plainVerdict, groupTest, groupVerdict, groupsVerdict, blockTest, blockVerdict, timetblsVerdict, deliveryVerdict, fileVerdict}
 use Rattle.keys.specs.Lookup.{keysIn, keysAmong}
 use Rattle.references.specs.Agree.{BlockKeys, StationKeys, GroupKeys}
-use Rattle.reading.specs.Reading.{FileRead}
+use Rattle.reading.specs.Reading.{FileRead, DeliveryRead}
 
 abbrev pub Keys : Type 0
 Keys = PerFile (List ℕ)
@@ -104,6 +104,9 @@ advance (Fault k p) x y e h = e
 pub back : (v : Verdict) {r : Verdict} (x : Verdict) → r ≡ orElse v x → fine r ≡ true → fine v ≡ true
 back Fine x e g = refl
 back (Fault k p) x e g = rw e at g
+
+pub delivery-back : {text : List ℕ} {v : Verdict} {was is : List ℕ} {r : Verdict} → DeliveryRead text v was is r → fine r ≡ true → fine v ≡ true
+delivery-back {text} {v} d g = back v (deliveryVerdict (lines text)) (d .verdict) g
 
 -- WHAT EACH READER SAYS, for a context that has the keys of the tables lent to it
 abbrev rowKeys : List ℕ → List ℕ → Keys

@@ -37,11 +37,15 @@ use Rattle.reading.specs.Reading.{Ready, FileRead, DeliveryRead, headLine}
 use Rattle.block_walks.specs.Blocks.{Counted}
 use Rattle.iff_laws.specs.Outcomes.{Loaded}
 use Rattle.iff_laws.specs.ScanLaws.{or-fine, cons-fine, or-nothing}
+use Rattle.first_files.specs.Firsts.{Seven, seven, FirstsRead}
+use Rattle.first_files.specs.declared.FirstFiles.{FirstFiles}
+use Rattle.last_files.specs.Lasts.{Four, four, LastsRead}
+use Rattle.last_files.specs.declared.LastFiles.{LastFiles}
 use Rattle.sizes.specs.Sizes.{sizesVerdict, lengthsWithin, absencesVerdict, lengthsOf}
 use Rattle.sizes.proofs.SizeLaws.{step, last}
 use Rattle.clearing.specs.Cleared.{Cleared, settled, Settled}
-use Rattle.load.proofs.RowLaws.{Held, held-rows, held-groups, held-timetbls, keys-held}
-use Rattle.load.proofs.ContextLaws.{Keys, asking, asked, advance, back, rows-said, groups-said, blocks-said, said-for}
+use Rattle.file_laws.proofs.RowLaws.{Held, held-rows, held-groups, held-timetbls, keys-held}
+use Rattle.file_laws.proofs.ContextLaws.{Keys, asking, asked, advance, back, delivery-back, rows-back, groups-back, rows-said, groups-said, blocks-said, said-for}
 
 -- SIZES: after them each file has room in its table
 fine-is : (v : Verdict) → fine v ≡ true → v ≡ Fine
@@ -97,9 +101,6 @@ ready f text t z e h =
     let n : length z ≡ length t = rw (e, length-replicate) in
     record { cleared = e ∙ rw n; room = rw n h }
 
-pub delivery-back : {text : List ℕ} {v : Verdict} {was is : List ℕ} {r : Verdict} → DeliveryRead text v was is r → fine r ≡ true → fine v ≡ true
-delivery-back {text} {v} d g = back v (deliveryVerdict (lines text)) (d .verdict) g
-
 -- DELIVERY: the words of its row stand at the front of its table
 zero-word : (m k : ℕ) → _≡_ {A = ℕ} (getD (replicate m 0) k 0) 0
 zero-word zero k = refl
@@ -149,12 +150,12 @@ unfolding filled
 final f Fine b a n rows p h k = p ∙ h refl
 final f (Fault x y) b a n rows p h k = p ∙ rw k
 
-four : (a b c x : Verdict) → firstFault (a ∷ b ∷ c ∷ x ∷ []) ≡ orElse (orElse (orElse a b) c) x
+four-first : (a b c x : Verdict) → firstFault (a ∷ b ∷ c ∷ x ∷ []) ≡ orElse (orElse (orElse a b) c) x
 unfolding firstFault
-four Fine Fine Fine x = or-nothing x
-four Fine Fine (Fault k p) x = refl
-four Fine (Fault k p) c x = refl
-four (Fault k p) b c x = refl
+four-first Fine Fine Fine x = or-nothing x
+four-first Fine Fine (Fault k p) x = refl
+four-first Fine (Fault k p) c x = refl
+four-first (Fault k p) b c x = refl
 
 later : (v : Verdict) {r : Verdict} (x : Verdict) → r ≡ orElse v x → fine r ≡ true → x ≡ Fine
 later Fine x e g = sym e ∙ fine-is _ g
@@ -197,9 +198,24 @@ falls (p ∷ q ∷ qs) f zero (suc j) h k g = f .0 (falls (q ∷ qs) (f .1) zero
 falls (p ∷ q ∷ qs) f (suc i) zero h k g = absurd (omega arith)
 falls (p ∷ q ∷ qs) f (suc i) (suc j) h k g = falls (q ∷ qs) (f .1) i j (omega arith) (omega arith) g
 
--- THE WHOLE: eleven files F, tables at entry t, cleared z, read a, at exit b; the verdicts before the first file and after each step
-module _ (F t z a b : PerFile (List ℕ)) (v0 v1 v2 v3 v4 v5 v6 v7 v8 v9 v10 v11 v12 : Verdict) (header : List ℕ) (form : Form) (rows services : ℕ)
-    (r : Answer) where
+-- THE FIRST SEVEN FILES AND THE LAST FOUR
+abbrev firstsOf : PerFile (List ℕ) → Seven (List ℕ)
+firstsOf v = seven (v .delivery) (v .company) (v .country) (v .trnsmode) (v .timezone) (v .stations) (v .footnote)
+
+abbrev lastsOf : PerFile (List ℕ) → Four (List ℕ)
+lastsOf v = four (v .timetbls) (v .changes) (v .xfootnote) (v .xchanges)
+
+-- no fault after the first, so none before them
+pub firsts-back : {header : List ℕ} {F : Seven (List ℕ)} {v : Verdict} {z a : Seven (List ℕ)} {r : FirstFiles} → FirstsRead header F v z a r
+    → fine (r .verdict) ≡ true
+    → fine v ≡ true
+firsts-back d g =
+    let stations = rows-back (d .places) (groups-back (d .footnotes) g) in
+    let countries = rows-back (d .countries) (rows-back (d .modes) (groups-back (d .zones) stations)) in
+    delivery-back (d .delivered) (rows-back (d .companies) (back (d .v2) _ (d .named) countries))
+
+-- THE WHOLE: eleven files F, tables at entry t, cleared z, read a, at exit b; the verdict on their sizes
+module _ (F t z a b : PerFile (List ℕ)) (v0 : Verdict) (header : List ℕ) (firsts : FirstFiles) (lasts : LastFiles) (r : Answer) where
   abbrev R : PerFile ℕ
   R = perFile (λ f. length (of t f))
 
@@ -218,123 +234,145 @@ module _ (F t z a b : PerFile (List ℕ)) (v0 v1 v2 v3 v4 v5 v6 v7 v8 v9 v10 v11
         (t .footnote) (t .timetbls) (t .changes) (t .xfootnote) (t .xchanges)
         (z .delivery) (z .company) (z .country) (z .trnsmode) (z .timezone) (z .stations)
         (z .footnote) (z .timetbls) (z .changes) (z .xfootnote) (z .xchanges)
-    pub delivery : DeliveryRead (F .delivery) v0 (z .delivery) (a .delivery) v1
     pub head : header ≡ headLine (F .delivery) .body
-    pub formed : form ≡ formOf (a .delivery)
-    pub company : FileRead (Rows Company) form (λ c. StationKeys c (z .country) (z .timezone)) header (F .company) v1 (z .company) (a .company) v2
-    pub named : v3 ≡ orElse v2 (companyNamed (a .delivery) (a .company))
-    pub country : FileRead (Rows Country) form (λ c. StationKeys c (z .stations) (z .timezone)) header (F .country) v3 (z .country) (a .country) v4
-    pub trnsmode : FileRead (Rows Trnsmode) form (λ c. StationKeys c (a .country) (z .timezone)) header (F .trnsmode) v4 (z .trnsmode) (a .trnsmode)
-        v5
-    pub timezone :
-        FileRead (Groups Timezone) form (λ c. GroupKeys c 0 (a .company) (a .trnsmode) (z .stations) (z .timetbls) (z .xfootnote)) header
-        (F .timezone) v5 (z .timezone) (a .timezone) v6
-    pub stations : FileRead (Rows Stations) form (λ c. StationKeys c (a .country) (a .timezone)) header (F .stations) v6 (z .stations) (a .stations)
-        v7
-    pub footnote :
-        FileRead (Groups Footnote) form (λ c. GroupKeys c 0 (a .company) (a .trnsmode) (a .stations) (z .timetbls) (z .xfootnote)) header
-        (F .footnote) v7 (z .footnote) (a .footnote) v8
-    pub timetbls :
-        FileRead Timetbls form (λ c. BlockKeys c (a .company) (a .trnsmode) (a .stations) (a .footnote)) header
-        (F .timetbls) v8 (z .timetbls) (a .timetbls) v9
-    pub changes :
-        FileRead (Groups Changes) form (λ c. GroupKeys c rows (a .company) (a .trnsmode) (a .stations) (a .timetbls) (z .xfootnote)) header
-        (F .changes) v9 (z .changes) (a .changes) v10
-    pub xfootnote :
-        FileRead (Groups Xfootnote) form (λ c. GroupKeys c rows (a .company) (a .trnsmode) (a .stations) (a .timetbls) (a .footnote)) header
-        (F .xfootnote) v10 (z .xfootnote) (a .xfootnote) v11
-    pub xchanges :
-        FileRead (Groups Xchanges) form (λ c. GroupKeys c rows (a .company) (a .trnsmode) (a .stations) (a .timetbls) (a .xfootnote)) header
-        (F .xchanges) v11 (z .xchanges) (a .xchanges) v12
-    pub counted : fine v9 ≡ true → Counted (a .timetbls) rows services
+    pub first : FirstsRead header (firstsOf F) v0 (firstsOf z) (firstsOf a) firsts
+    pub last :
+        LastsRead (firsts .form) header (a .company) (a .trnsmode) (a .stations) (a .footnote) (lastsOf F) (firsts .verdict)
+        (lastsOf z) (lastsOf a) lasts
     pub settles :
-        Settled v12 (a .delivery) (a .company) (a .country) (a .trnsmode) (a .timezone) (a .stations)
+        Settled (lasts .verdict) (a .delivery) (a .company) (a .country) (a .trnsmode) (a .timezone) (a .stations)
         (a .footnote) (a .timetbls) (a .changes) (a .xfootnote) (a .xchanges)
         (b .delivery) (b .company) (b .country) (b .trnsmode) (b .timezone) (b .stations)
         (b .footnote) (b .timetbls) (b .changes) (b .xfootnote) (b .xchanges)
-    pub answers : r ≡ answer v12 (form .days) services
-
-  -- the verdicts before and after each file
-  abbrev before : PerFile Verdict
-  before = eleven v0 v1 v3 v4 v5 v6 v7 v8 v9 v10 v11
-
-  abbrev after : PerFile Verdict
-  after = eleven v1 v2 v4 v5 v6 v7 v8 v9 v10 v11 v12
-
-  -- the verdict that is due to a file
-  abbrev Due : File → Verdict
-  Due f = fileVerdict C header f (lines (of F f))
-
-  -- what the reader of a file has said and left, whatever keys it was lent; and what was done to the table before and after it
-  record ReadBy (f : File) : Type 0 where
-    keys : Keys
-    said : of after f ≡ orElse (of before f) (fileVerdict (asking form keys) header f (lines (of F f)))
-    table : fine (of after f) ≡ true → of a f ≡ fill (rowWidth f) (length (of z f)) (rowsOfLines form f (lines (of F f)))
-    kept : length (of a f) ≡ length (of z f)
-    emptied : of z f ≡ replicate (length (of t f)) 0
-    ended : of b f ≡ settled v12 (of a f)
-
-  -- the rows and the keys of each file, and its room
-  abbrev rowsOf : File → List Row
-  rowsOf f = rowsOfLines D f (lines (of F f))
-
-  own-keys : (f : File) → C .keys f ≡ keysOf f (rowsOf f)
-  unfolding contextOf
-  own-keys f = ap (keysOf f) (of-each rowsOf f)
-
-  room-of : (f : File) → of R f ≡ length (of t f)
-  room-of f = of-each (λ g. length (of t g)) f
-
-  abbrev Filled : File → Type 0
-  Filled f = of a f ≡ fill (rowWidth f) (length (of t f)) (rowsOf f)
-
-  module _ (f : File) (d : ReadBy f) where
-    long : length (of z f) ≡ length (of t f)
-    long = rw (d .emptied, length-replicate)
-
-    filled-by : form ≡ D → fine (of after f) ≡ true → Filled f
-    filled-by p g = d .table g ∙ rw (long, p)
-
-    keys-by : form ≡ D → fine (of after f) ≡ true → Held f D (lines (of F f)) → Fit F R → keysIn f (of a f) ≡ C .keys f
-    keys-by p g h k =
-        ap (keysIn f) (filled-by p g) ∙ (keys-held f D (length (of t f)) (lines (of F f)) h (rw (← (room-of f)) (k f)) ∙ sym (own-keys f))
-
-    due-by : (fine (of before f) ≡ true → form ≡ C .form) → (fine (of before f) ≡ true → asked f (of (d .keys)) ≡ asked f (C .keys))
-        → of after f ≡ orElse (of before f) (Due f)
-    due-by p q = said-for C f form (d .keys) header (of F f) (of before f) (d .said) p q
-
-    left-by : v12 ≡ loadVerdict F R → (fine v12 ≡ true → Filled f) → of b f ≡ loadTable f F R
-    unfolding loadTable
-    left-by e h =
-        rw (← e, room-of f, of-each rowsOf f) (final f v12 (of b f) (of a f) (length (of t f)) (rowsOf f) (d .ended) h (d .kept ∙ long))
+    pub answers : r ≡ answer (lasts .verdict) (firsts .form .days) (lasts .services)
 
   module _ (s : Steps) where
+    -- the verdict after each step, the form, and the rows and services of TIMETBLS
+    abbrev v1 : Verdict
+    v1 = s .first .v1
+
+    abbrev v2 : Verdict
+    v2 = s .first .v2
+
+    abbrev v3 : Verdict
+    v3 = s .first .v3
+
+    abbrev v4 : Verdict
+    v4 = s .first .v4
+
+    abbrev v5 : Verdict
+    v5 = s .first .v5
+
+    abbrev v6 : Verdict
+    v6 = s .first .v6
+
+    abbrev v7 : Verdict
+    v7 = s .first .v7
+
+    abbrev v8 : Verdict
+    v8 = firsts .verdict
+
+    abbrev v9 : Verdict
+    v9 = s .last .v1
+
+    abbrev v10 : Verdict
+    v10 = s .last .v2
+
+    abbrev v11 : Verdict
+    v11 = s .last .v3
+
+    abbrev v12 : Verdict
+    v12 = lasts .verdict
+
+    abbrev form : Form
+    form = firsts .form
+
+    abbrev rows : ℕ
+    rows = s .last .rows
+
+    abbrev services : ℕ
+    services = lasts .services
+
+    -- the verdicts before and after each file
+    abbrev before : PerFile Verdict
+    before = eleven v0 v1 v3 v4 v5 v6 v7 v8 v9 v10 v11
+
+    abbrev after : PerFile Verdict
+    after = eleven v1 v2 v4 v5 v6 v7 v8 v9 v10 v11 v12
+
+    -- the verdict that is due to a file
+    abbrev Due : File → Verdict
+    Due f = fileVerdict C header f (lines (of F f))
+
+    -- what the reader of a file has said and left, whatever keys it was lent; and what was done to the table before and after it
+    record ReadBy (f : File) : Type 0 where
+      keys : Keys
+      said : of after f ≡ orElse (of before f) (fileVerdict (asking form keys) header f (lines (of F f)))
+      table : fine (of after f) ≡ true → of a f ≡ fill (rowWidth f) (length (of z f)) (rowsOfLines form f (lines (of F f)))
+      kept : length (of a f) ≡ length (of z f)
+      emptied : of z f ≡ replicate (length (of t f)) 0
+      ended : of b f ≡ settled v12 (of a f)
+
+    -- the rows and the keys of each file, and its room
+    abbrev rowsOf : File → List Row
+    rowsOf f = rowsOfLines D f (lines (of F f))
+
+    own-keys : (f : File) → C .keys f ≡ keysOf f (rowsOf f)
+    unfolding contextOf
+    own-keys f = ap (keysOf f) (of-each rowsOf f)
+
+    room-of : (f : File) → of R f ≡ length (of t f)
+    room-of f = of-each (λ g. length (of t g)) f
+
+    abbrev Filled : File → Type 0
+    Filled f = of a f ≡ fill (rowWidth f) (length (of t f)) (rowsOf f)
+
+    module _ (f : File) (d : ReadBy f) where
+      long : length (of z f) ≡ length (of t f)
+      long = rw (d .emptied, length-replicate)
+
+      filled-by : form ≡ D → fine (of after f) ≡ true → Filled f
+      filled-by p g = d .table g ∙ rw (long, p)
+
+      keys-by : form ≡ D → fine (of after f) ≡ true → Held f D (lines (of F f)) → Fit F R → keysIn f (of a f) ≡ C .keys f
+      keys-by p g h k =
+          ap (keysIn f) (filled-by p g) ∙ (keys-held f D (length (of t f)) (lines (of F f)) h (rw (← (room-of f)) (k f)) ∙ sym (own-keys f))
+
+      due-by : (fine (of before f) ≡ true → form ≡ C .form) → (fine (of before f) ≡ true → asked f (of (d .keys)) ≡ asked f (C .keys))
+          → of after f ≡ orElse (of before f) (Due f)
+      due-by p q = said-for C f form (d .keys) header (of F f) (of before f) (d .said) p q
+
+      left-by : v12 ≡ loadVerdict F R → (fine v12 ≡ true → Filled f) → of b f ≡ loadTable f F R
+      unfolding loadTable
+      left-by e h =
+          rw (← e, room-of f, of-each rowsOf f) (final f v12 (of b f) (of a f) (length (of t f)) (rowsOf f) (d .ended) h (d .kept ∙ long))
+
     -- THE READERS, file by file
     rows-read : (f : RowFile) → ReadBy (Rows f)
     rows-read Company =
-        record { keys = _; said = rows-said (s .company); table = s .company .table; kept = s .company .kept; emptied = s .cleared .c2; ended = s .settles .s2 }
+        record { keys = _; said = rows-said (s .first .companies); table = s .first .companies .table; kept = s .first .companies .kept; emptied = s .cleared .c2; ended = s .settles .s2 }
     rows-read Country =
-        record { keys = _; said = rows-said (s .country); table = s .country .table; kept = s .country .kept; emptied = s .cleared .c3; ended = s .settles .s3 }
+        record { keys = _; said = rows-said (s .first .countries); table = s .first .countries .table; kept = s .first .countries .kept; emptied = s .cleared .c3; ended = s .settles .s3 }
     rows-read Trnsmode =
-        record { keys = _; said = rows-said (s .trnsmode); table = s .trnsmode .table; kept = s .trnsmode .kept; emptied = s .cleared .c4; ended = s .settles .s4 }
+        record { keys = _; said = rows-said (s .first .modes); table = s .first .modes .table; kept = s .first .modes .kept; emptied = s .cleared .c4; ended = s .settles .s4 }
     rows-read Stations =
-        record { keys = _; said = rows-said (s .stations); table = s .stations .table; kept = s .stations .kept; emptied = s .cleared .c6; ended = s .settles .s6 }
+        record { keys = _; said = rows-said (s .first .places); table = s .first .places .table; kept = s .first .places .kept; emptied = s .cleared .c6; ended = s .settles .s6 }
 
     groups-read : (f : GroupFile) → ReadBy (Groups f)
     groups-read Timezone =
-        record { keys = _; said = groups-said (s .timezone); table = s .timezone .table; kept = s .timezone .kept; emptied = s .cleared .c5; ended = s .settles .s5 }
+        record { keys = _; said = groups-said (s .first .zones); table = s .first .zones .table; kept = s .first .zones .kept; emptied = s .cleared .c5; ended = s .settles .s5 }
     groups-read Footnote =
-        record { keys = _; said = groups-said (s .footnote); table = s .footnote .table; kept = s .footnote .kept; emptied = s .cleared .c7; ended = s .settles .s7 }
+        record { keys = _; said = groups-said (s .first .footnotes); table = s .first .footnotes .table; kept = s .first .footnotes .kept; emptied = s .cleared .c7; ended = s .settles .s7 }
     groups-read Changes =
-        record { keys = _; said = groups-said (s .changes); table = s .changes .table; kept = s .changes .kept; emptied = s .cleared .c9; ended = s .settles .s9 }
+        record { keys = _; said = groups-said (s .last .changed); table = s .last .changed .table; kept = s .last .changed .kept; emptied = s .cleared .c9; ended = s .settles .s9 }
     groups-read Xfootnote =
-        record { keys = _; said = groups-said (s .xfootnote); table = s .xfootnote .table; kept = s .xfootnote .kept; emptied = s .cleared .c10; ended = s .settles .s10 }
+        record { keys = _; said = groups-said (s .last .marked); table = s .last .marked .table; kept = s .last .marked .kept; emptied = s .cleared .c10; ended = s .settles .s10 }
     groups-read Xchanges =
-        record { keys = _; said = groups-said (s .xchanges); table = s .xchanges .table; kept = s .xchanges .kept; emptied = s .cleared .c11; ended = s .settles .s11 }
+        record { keys = _; said = groups-said (s .last .excepted); table = s .last .excepted .table; kept = s .last .excepted .kept; emptied = s .cleared .c11; ended = s .settles .s11 }
 
     blocks-read : ReadBy Timetbls
     blocks-read =
-        record { keys = _; said = blocks-said (s .timetbls); table = s .timetbls .table; kept = s .timetbls .kept; emptied = s .cleared .c8; ended = s .settles .s8 }
+        record { keys = _; said = blocks-said (s .last .blocks); table = s .last .blocks .table; kept = s .last .blocks .kept; emptied = s .cleared .c8; ended = s .settles .s8 }
 
     -- NO FAULT NOW, SO NONE BEFORE: the verdicts in turn
     abbrev turns : List Bool
@@ -346,11 +384,11 @@ module _ (F t z a b : PerFile (List ℕ)) (v0 v1 v2 v3 v4 v5 v6 v7 v8 v9 v10 v11
 
     each-back : Falling turns
     each-back = (
-      back v0 _ (s .delivery .verdict),
+      back v0 _ (s .first .delivered .verdict),
       (
         one-back (Rows Company) (rows-read Company),
         (
-          back v2 _ (s .named),
+          back v2 _ (s .first .named),
           (
             one-back (Rows Country) (rows-read Country),
             (
@@ -389,7 +427,7 @@ module _ (F t z a b : PerFile (List ℕ)) (v0 v1 v2 v3 v4 v5 v6 v7 v8 v9 v10 v11
     fits g = roomy F R v0 (s .sizes) (to 0 1 refl refl g)
 
     form-right : fine v1 ≡ true → form ≡ D
-    form-right g = s .formed ∙ ap formOf (s .delivery .table g) ∙ form-there (length (z .delivery)) (lines (F .delivery))
+    form-right g = s .first .formed ∙ ap formOf (s .first .delivered .table g) ∙ form-there (length (z .delivery)) (lines (F .delivery))
 
     context-form : D ≡ C .form
     unfolding contextOf
@@ -421,10 +459,10 @@ module _ (F t z a b : PerFile (List ℕ)) (v0 v1 v2 v3 v4 v5 v6 v7 v8 v9 v10 v11
     -- DELIVERY's company
     due-named : v3 ≡ orElse v2 (companyVerdict C (rowsOfFiles F .delivery))
     due-named =
-        advance v2 _ _ (s .named)
+        advance v2 _ _ (s .first .named)
         (λ g.
         let row = company-word (length (z .delivery)) (lines (F .delivery)) in
-        rw (companies g, s .delivery .table (to 1 2 refl refl g), row, same-rows D (lines (F .delivery))))
+        rw (companies g, s .first .delivered .table (to 1 2 refl refl g), row, same-rows D (lines (F .delivery))))
 
     due-country : v4 ≡ orElse v3 (Due (Rows Country))
     due-country = due-by (Rows Country) (rows-read Country) (λ g. form-is (to 1 3 refl refl g)) (λ g. refl)
@@ -467,7 +505,7 @@ module _ (F t z a b : PerFile (List ℕ)) (v0 v1 v2 v3 v4 v5 v6 v7 v8 v9 v10 v11
 
     -- services are looked up in the rows that were counted
     looked-up : right 9 → keysAmong Timetbls rows (a .timetbls) ≡ C .keys Timetbls
-    looked-up g = keys-counted Timetbls (a .timetbls) rows (s .counted g .rows) ∙ running g
+    looked-up g = keys-counted Timetbls (a .timetbls) rows (s .last .counted g .rows) ∙ running g
 
     due-changes : v10 ≡ orElse v9 (Due (Groups Changes))
     unfolding groups-read contextOf
@@ -491,7 +529,7 @@ module _ (F t z a b : PerFile (List ℕ)) (v0 v1 v2 v3 v4 v5 v6 v7 v8 v9 v10 v11
     contents =
         rw (← (s .head))
         (sym
-        (step v0 _ _ (s .delivery .verdict)
+        (step v0 _ _ (s .first .delivered .verdict)
         ∙ step v1 _ _ due-company
         ∙ step v2 _ _ due-named
         ∙ step v3 _ _ due-country
@@ -507,10 +545,10 @@ module _ (F t z a b : PerFile (List ℕ)) (v0 v1 v2 v3 v4 v5 v6 v7 v8 v9 v10 v11
 
     verdict-is : v12 ≡ loadVerdict F R
     unfolding loadVerdict sizesVerdict
-    verdict-is = contents ∙ ap (λ (x : Verdict). orElse x (contentsVerdict C (rowsOfFiles F) F)) (s .sizes) ∙ sym (four _ _ _ _)
+    verdict-is = contents ∙ ap (λ (x : Verdict). orElse x (contentsVerdict C (rowsOfFiles F) F)) (s .sizes) ∙ sym (four-first _ _ _ _)
 
     services-are : fine v12 ≡ true → services ≡ length (C .keys Timetbls)
-    services-are g = let h = to 9 12 refl refl g in s .counted h .services ∙ ap length (running h)
+    services-are g = let h = to 9 12 refl refl g in s .last .counted h .services ∙ ap length (running h)
 
     answers-are : r ≡ loadAnswer F R
     unfolding loadAnswer
@@ -543,7 +581,7 @@ module _ (F t z a b : PerFile (List ℕ)) (v0 v1 v2 v3 v4 v5 v6 v7 v8 v9 v10 v11
         let m : length (z .delivery) ≡ length (t .delivery) = rw (s .cleared .c1, length-replicate) in
         rw (← verdict-is)
         (final Delivery v12 (b .delivery) (a .delivery) (length (t .delivery)) (rowsOf Delivery) (s .settles .s1)
-        (λ g. s .delivery .table (to 1 12 refl refl g) ∙ rw (m, same-rows D (lines (F .delivery)))) (s .delivery .kept ∙ m))
+        (λ g. s .first .delivered .table (to 1 12 refl refl g) ∙ rw (m, same-rows D (lines (F .delivery)))) (s .first .delivered .kept ∙ m))
 
     left : (f : File) → of b f ≡ loadTable f F R
     left Delivery = delivery-left
