@@ -23,14 +23,6 @@ ghost use Rattle.references.specs.Agree.{GroupKeys, GroupKeysAmong};
 ghost use Rattle.reading.specs.Reading.{Ready, RowsDone, FileRead};
 ghost use Rattle.group_files.specs.Begun.{firstIn, namesOthers, GroupsBegun};
 
-// The number of a line that so many lines come before.
-fn line_number(before: usize) -> u64
-    requires { ⌜ before + 1 < 2 ^ 64 ⌝ }
-    ensures { λ r. ⌜ r ≡ before + 1 ⌝ }
-{
-    (before as u64) + 1
-}
-
 // The lines from `from` on, the first of which is line 2 of the file. The table holds the first line's row, and theirs come behind it. Each row is
 // marked, where there are marks.
 fn add_lines(
@@ -84,11 +76,14 @@ fn add_lines(
             LinePut::Early => {
                 return RowsRead::Stopped(
                     Reason::Order,
-                    Place::At(File::Groups(file), 0, line_number(read)),
+                    Place::At(File::Groups(file), 0, reading::line_number(read)),
                 );
             }
             LinePut::Refused(r) => {
-                return RowsRead::Stopped(r, Place::At(File::Groups(file), 0, line_number(rows)));
+                return RowsRead::Stopped(
+                    r,
+                    Place::At(File::Groups(file), 0, reading::line_number(rows)),
+                );
             }
             LinePut::Put(g) => {
                 group = g;
@@ -101,7 +96,7 @@ fn add_lines(
     if !order::may_end(file, stand) {
         return RowsRead::Stopped(
             Reason::Order,
-            Place::At(File::Groups(file), 0, line_number(read)),
+            Place::At(File::Groups(file), 0, reading::line_number(read)),
         );
     }
     let run = group.run;

@@ -1,8 +1,8 @@
--- `row_files::read_short` meets its contract: what is lent for marks has no room for any. Assumes nothing.
+-- `file_rows::read_short` meets its contract: what is lent for marks has no room for any. Assumes nothing.
 use native.Mathlib.Omega.{arith}
 use borrow.Author.Needs.{needs}
-use Rattle.row_files.proofs.read_short.Statement.{statement}
-use Rattle.row_files.proofs.read_short.Tie as tie
+use Rattle.file_rows.proofs.read_short.Statement.{statement}
+use Rattle.file_rows.proofs.read_short.Tie as tie
 
 add-rows-requires : tie.Need-add-rows-requires
 add-rows-requires c κs = (c .before .before .before .before .before .before .before .pre, λ wide. absurd (omega (arith, wide)))

@@ -25,7 +25,7 @@ use Rattle.references.specs.Agree.{StationKeysAmong}
 use Rattle.references.specs.declared.StationCounts.{StationCounts}
 use Rattle.fresh_texts.specs.Texts.{asLine}
 use Rattle.records.specs.Layouts.{layoutTest}
-use Rattle.row_files.specs.Tests.{plainRowTest}
+use Rattle.file_rows.specs.Tests.{plainRowTest}
 use Rattle.iff.specs.Columns.{recordFields, rowRecord, fieldsOf}
 use Rattle.iff.specs.Values.{words, wordCount}
 use Rattle.iff.specs.declared.Record.{Record}
@@ -34,10 +34,10 @@ use Rattle.tables.proofs.Put.{length-put}
 use Rattle.records.proofs.FileLaws.{row-fields, row-length, row-tag, row-put, row-room}
 use Rattle.fresh_keys.specs.Runs.{runOf}
 use Rattle.fresh_keys.specs.declared.KeyRun.{KeyRun}
-use Rattle.row_files.specs.declared.RowKept.{RowKept}
-use Rattle.row_files.specs.declared.RowKept.the-variants.{Key, Refused}
-use Rattle.row_files.specs.Plain.{Earlier, LinesMarked, PlainRow, RowStored, LineAdded}
-use Rattle.row_files.proofs.TestLaws.{plain-split}
+use Rattle.file_rows.specs.declared.RowKept.{RowKept}
+use Rattle.file_rows.specs.declared.RowKept.the-variants.{Key, Refused}
+use Rattle.file_rows.specs.Plain.{Earlier, LinesMarked, PlainRow, RowStored, LineAdded}
+use Rattle.file_rows.proofs.TestLaws.{plain-split}
 
 -- the four tests as the code makes them
 unfoldable pub rowTests : Bool → Bool → Bool → Bool → Test

@@ -1,4 +1,4 @@
--- `row_files::plain_row_test` meets its contract: the tests in their order. Assumes nothing.
+-- `file_rows::plain_row_test` meets its contract: the tests in their order. Assumes nothing.
 use mathlib.Core.Path.{_≡_, refl, sym, _∙_}
 use mathlib.Core.Bool.{Bool, true, false}
 use native.Mathlib.Omega.{arith}
@@ -7,9 +7,9 @@ use borrow.Author.Tests.{not-true, not-false}
 use Rattle.iff.specs.Refusals.{firstTest}
 use Rattle.iff.specs.declared.File.the-variants.{Rows}
 use Rattle.tables.proofs.Widths.{widths}
-use Rattle.row_files.proofs.PlainLaws.{rowTests, row-test-is}
-use Rattle.row_files.proofs.plain_row_test.Statement.{statement}
-use Rattle.row_files.proofs.plain_row_test.Tie as tie
+use Rattle.file_rows.proofs.PlainLaws.{rowTests, row-test-is}
+use Rattle.file_rows.proofs.plain_row_test.Statement.{statement}
+use Rattle.file_rows.proofs.plain_row_test.Tie as tie
 
 -- the start, from the first test
 abbrev start : tie.After-row-means → tie.Start

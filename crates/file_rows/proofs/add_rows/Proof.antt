@@ -1,13 +1,13 @@
--- `row_files::add_rows` meets its contract. The loop's invariant: what is left to read is the whole. Assumes nothing.
-use Prim.Native.Nat.{_-_}
+-- `file_rows::add_rows` meets its contract. The loop's invariant: what is left to read is the whole. Assumes nothing.
+use Prim.Native.Nat.{_+_, _-_, _^_, _<_}
 use mathlib.Core.Path.{_≡_, refl, sym, _∙_}
 use native.Mathlib.Omega.{arith}
 use borrow.Author.Needs.{needs}
 use lib.ListN.{length}
 use Rattle.text.specs.Spans.{LineAt}
-use Rattle.row_files.proofs.ReadLaws.{Reading, starts, line-room, stops, goes-on, ends, length-is}
-use Rattle.row_files.proofs.add_rows.Statement.{statement}
-use Rattle.row_files.proofs.add_rows.Tie as tie
+use Rattle.file_rows.proofs.ReadLaws.{Reading, starts, line-room, stops, goes-on, ends, length-is}
+use Rattle.file_rows.proofs.add_rows.Statement.{statement}
+use Rattle.file_rows.proofs.add_rows.Tie as tie
 
 abbrev Inv-loop : tie.InvT-loop
 Inv-loop file form text from t₀ countries zones counts places marks₀ run₀ at₀ count₀ t marks run at count =
@@ -48,11 +48,18 @@ add-line-requires c κs =
     (s .args .t .now) (s .pre .0) _ _ _ _ _ (l .loop .inv .0) _ (n .line-at .ensures)
     (omega (arith, l .loop .inv .0 .cut .few, l .loop .inv .0 .inside, s .good))
 
-line-number-requires : tie.Need-line-number-requires Inv-loop μ-loop
-line-number-requires c κs =
-    let n = spanned (c .before .before .before .before .before) in
+-- a line has a number
+numbered : (a : tie.After-add-line Inv-loop μ-loop) → round (spanned a) .loop .count + 2 < 2 ^ 64
+numbered a =
+    let n = spanned a in
     let l = round n in
     omega (arith, l .loop .inv .0 .cut .few, l .loop .inv .0 .inside, n .before .loop-test .taken, start l .good)
+
+add-line-number : tie.Need-add-line-number Inv-loop μ-loop
+add-line-number c = let n = numbered (c .before .before .before .before .before) in omega (arith, n)
+
+line-number-requires : tie.Need-line-number-requires Inv-loop μ-loop
+line-number-requires c κs = let n = numbered (c .before .before .before .before .before) in omega (arith, n)
 
 returns : tie.Need-returns Inv-loop μ-loop
 returns c =
@@ -61,7 +68,7 @@ returns c =
     let s = start l in
     stops (s .args .file) (s .args .form) (s .args .text .now) (s .args .from) (s .args .counts) (s .args .countries .now) (s .args .zones .now)
     (s .args .t .now) (s .pre .0) _ _ _ _ _ (l .loop .inv .0) _ (spanned a .line-at .ensures) _ _ (a .add-line .ensures) _ _
-    (c .before .before .r .given .1) (c .line-number .ensures)
+    (c .before .before .r .given .1) (c .line-number .ensures ∙ omega arith)
 
 -- the part that is marked is the line
 part-start : tie.Need-part-mark-line-start Inv-loop μ-loop
@@ -116,6 +123,7 @@ add-rows-spec =
     (λ c. omega (arith, c .before .line-at .ensures))
     add-line-requires
     (λ c. search needs)
+    add-line-number
     line-number-requires
     (λ c. returns c .kept)
     (λ c. round (spanned (c .before .before .before .before .before .before)) .loop .inv .1)

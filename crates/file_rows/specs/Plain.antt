@@ -24,9 +24,9 @@ use Rattle.text_numbers.specs.Numbers.{numbersOf}
 use Rattle.row_marks.specs.Remembered.{spreadOf, Remembers}
 use Rattle.reading.specs.Reading.{Begun, RowsDone}
 use Rattle.reading.specs.declared.RowsRead.{RowsRead}
-use Rattle.row_files.specs.Tests.{plainRowTest}
-use Rattle.row_files.specs.declared.RowKept.{RowKept}
-use Rattle.row_files.specs.declared.RowKept.the-variants.{Key, Refused}
+use Rattle.file_rows.specs.Tests.{plainRowTest}
+use Rattle.file_rows.specs.declared.RowKept.{RowKept}
+use Rattle.file_rows.specs.declared.RowKept.the-variants.{Key, Refused}
 
 -- the lines before are remembered: their keys, which the table has, and their texts
 pub record LinesMarked (f : RowFile) (before t marks : List ℕ) : Type 0 where

@@ -48,11 +48,11 @@ use Rattle.text_numbers.proofs.NumberLaws.{numbers-next}
 use Rattle.row_marks.specs.Remembered.{spreadOf, Remembers, LineMarked}
 use Rattle.reading.specs.Reading.{Begun}
 use Rattle.reading.specs.declared.RowsRead.the-variants.{AllRead, Stopped}
-use Rattle.row_files.specs.Tests.{plainRowTest}
-use Rattle.row_files.specs.Plain.{firstIn, PlainBegun, RowsOf, PlainLine, Earlier, LineAdded, testOf, keptKey}
-use Rattle.row_files.specs.declared.RowKept.{RowKept}
-use Rattle.row_files.specs.declared.RowKept.the-variants.{Key, Refused}
-use Rattle.row_files.proofs.TestLaws.{plain-split}
+use Rattle.file_rows.specs.Tests.{plainRowTest}
+use Rattle.file_rows.specs.Plain.{firstIn, PlainBegun, RowsOf, PlainLine, Earlier, LineAdded, testOf, keptKey}
+use Rattle.file_rows.specs.declared.RowKept.{RowKept}
+use Rattle.file_rows.specs.declared.RowKept.the-variants.{Key, Refused}
+use Rattle.file_rows.proofs.TestLaws.{plain-split}
 
 -- a line that passes is ended
 pub passing-ended : (c : Context) (f : RowFile) (earlier : List Line) (l : Line) → Passes ≡ plainTest c f earlier l → l .ended ≡ true

@@ -1,12 +1,12 @@
--- `row_files::add_row` meets its contract. Assumes nothing.
+-- `file_rows::add_row` meets its contract. Assumes nothing.
 use Prim.Native.Nat.{ℕ}
 use mathlib.Core.List.{List}
 use borrow.Author.Needs.{needs}
 use Rattle.iff.specs.Lines.{Line}
 use Rattle.records.specs.Layouts.{lineOf}
-use Rattle.row_files.proofs.PlainLaws.{room-for, line-refused, row-plain, line-added}
-use Rattle.row_files.proofs.add_row.Statement.{statement}
-use Rattle.row_files.proofs.add_row.Tie as tie
+use Rattle.file_rows.proofs.PlainLaws.{room-for, line-refused, row-plain, line-added}
+use Rattle.file_rows.proofs.add_row.Statement.{statement}
+use Rattle.file_rows.proofs.add_row.Tie as tie
 
 -- THE PLACES: the start, from the record's kind, and that from the line that was read
 abbrev start : tie.After-row-record → tie.Start

@@ -1,8 +1,8 @@
--- `group_files::line_number` meets its contract. Assumes nothing.
+-- `reading::line_number` meets its contract. Assumes nothing.
 use native.Mathlib.Omega.{arith}
 use borrow.Author.Needs.{needs}
-use Rattle.group_files.proofs.line_number.Statement.{statement}
-use Rattle.group_files.proofs.line_number.Tie as tie
+use Rattle.reading.proofs.line_number.Statement.{statement}
+use Rattle.reading.proofs.line_number.Tie as tie
 
 returns : tie.Need-returns
 returns c = omega arith

@@ -1,8 +1,8 @@
--- `row_files::read_marked` meets its contract: before the first line nothing is marked. Assumes nothing.
+-- `file_rows::read_marked` meets its contract: before the first line nothing is marked. Assumes nothing.
 use borrow.Author.Needs.{needs}
 use Rattle.marks.proofs.MarkLaws.{none-marked}
-use Rattle.row_files.proofs.read_marked.Statement.{statement}
-use Rattle.row_files.proofs.read_marked.Tie as tie
+use Rattle.file_rows.proofs.read_marked.Statement.{statement}
+use Rattle.file_rows.proofs.read_marked.Tie as tie
 
 add-rows-requires : tie.Need-add-rows-requires
 add-rows-requires c κs = (c .before .before .before .before .before .before .before .pre, λ wide. none-marked)

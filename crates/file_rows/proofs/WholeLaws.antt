@@ -16,7 +16,7 @@ use Rattle.iff_rules.specs.Rows.{rowOf, laterRows, firstRowOf, Context}
 use Rattle.iff_rules.specs.Load.{plainVerdict, laterVerdict}
 use Rattle.reading.specs.declared.RowsRead.{RowsRead}
 use Rattle.reading.specs.Reading.{headLine, Begun, Split, RowsDone}
-use Rattle.row_files.specs.Plain.{firstIn, PlainBegun, RowsOf}
+use Rattle.file_rows.specs.Plain.{firstIn, PlainBegun, RowsOf}
 
 -- the row that begins a table stands first in it
 first-in : (f : RowFile) (n : ℕ) (first : Row) (t : List ℕ) → length first ≡ rowWidth (Rows f) → t ≡ fill (rowWidth (Rows f)) n (first ∷ [])

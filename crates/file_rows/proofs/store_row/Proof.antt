@@ -1,13 +1,13 @@
--- `row_files::store_row` meets its contract. Assumes nothing.
+-- `file_rows::store_row` meets its contract. Assumes nothing.
 use mathlib.Core.Path.{_≡_, refl, sym, _∙_}
 use native.Mathlib.Omega.{arith}
 use borrow.Author.Needs.{needs}
 use Rattle.fresh_texts.specs.Texts.{asLine}
 use Rattle.iff.specs.declared.File.the-variants.{Rows}
 use Rattle.tables.proofs.Widths.{widths}
-use Rattle.row_files.proofs.PlainLaws.{row-refused, row-stored}
-use Rattle.row_files.proofs.store_row.Statement.{statement}
-use Rattle.row_files.proofs.store_row.Tie as tie
+use Rattle.file_rows.proofs.PlainLaws.{row-refused, row-stored}
+use Rattle.file_rows.proofs.store_row.Statement.{statement}
+use Rattle.file_rows.proofs.store_row.Tie as tie
 
 returns : tie.Need-returns
 returns c =

@@ -1,9 +1,9 @@
--- `row_files::read_rows` meets its contract: the rows that were counted name what the tables name. Assumes nothing.
+-- `file_rows::read_rows` meets its contract: the rows that were counted name what the tables name. Assumes nothing.
 use borrow.Author.Needs.{needs}
 use Rattle.references.specs.Agree.{StationKeys, StationKeysAmong}
-use Rattle.row_files.proofs.WholeLaws.{for-fewer}
-use Rattle.row_files.proofs.read_rows.Statement.{statement}
-use Rattle.row_files.proofs.read_rows.Tie as tie
+use Rattle.file_rows.proofs.WholeLaws.{for-fewer}
+use Rattle.file_rows.proofs.read_rows.Statement.{statement}
+use Rattle.file_rows.proofs.read_rows.Tie as tie
 
 -- the start, from the rows counted
 abbrev start : tie.After-count-for-stations → tie.Start

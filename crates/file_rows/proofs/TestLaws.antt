@@ -18,7 +18,7 @@ use Rattle.iff_rules.specs.Unique.{freshKey, freshTexts}
 use Rattle.iff_rules.specs.References.{metByRow}
 use Rattle.iff_rules.specs.Load.{plainTest}
 use Rattle.records.specs.Layouts.{layoutTest}
-use Rattle.row_files.specs.Tests.{plainRowTest}
+use Rattle.file_rows.specs.Tests.{plainRowTest}
 
 -- the tests in their order, the values and the duplicates each in two parts
 split : (l v m k x r : Bool)

@@ -1,12 +1,12 @@
--- `row_files::add_line` meets its contract: the row is a local one. Assumes nothing.
+-- `file_rows::add_line` meets its contract: the row is a local one. Assumes nothing.
 use Prim.Native.Nat.{_≤_}
 use mathlib.Core.Path.{_≡_, refl, sym, _∙_}
 use native.Mathlib.Omega.{arith}
 use borrow.Author.Needs.{needs}
 use lib.ListN.{length, replicate}
 use lib.Seq.{length-take-le}
-use Rattle.row_files.proofs.add_line.Statement.{statement}
-use Rattle.row_files.proofs.add_line.Tie as tie
+use Rattle.file_rows.proofs.add_line.Statement.{statement}
+use Rattle.file_rows.proofs.add_line.Tie as tie
 
 add-row-requires : tie.Need-add-row-requires
 add-row-requires c κs =
