@@ -77,7 +77,7 @@ fn row_test(
     if !is_new(row[iff::words::TAG], fresh) {
         return iff::Test::Fails(iff::Reason::Duplicate);
     }
-    if !references::met_in_block(row, counts, companies, modes, stations, footnotes, places) {
+    if !block_references::met_in_block(row, counts, companies, modes, stations, footnotes, places) {
         return iff::Test::Fails(iff::Reason::Reference);
     }
     iff::Test::Passes

@@ -136,7 +136,7 @@ fn row_test(
     if !is_unique(file, rows, group, row, t, marks) {
         return Test::Fails(Reason::Duplicate);
     }
-    if !references::met_in_group(
+    if !group_references::met_in_group(
         file,
         row,
         counts,

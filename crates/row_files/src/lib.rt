@@ -65,7 +65,7 @@ fn plain_row_test(
     if !row_marks::are_texts_new(file, marks, before, line) {
         return Test::Fails(Reason::Duplicate);
     }
-    if !references::met_by_row(file, row, countries, zones, counts, places) {
+    if !row_references::met_by_row(file, row, countries, zones, counts, places) {
         return Test::Fails(Reason::Reference);
     }
     Test::Passes

@@ -81,7 +81,7 @@ fn is_row_sound(
     if !is_fresh(file, t, from, i, row, marks) {
         return false;
     }
-    if !references::met_in_group(
+    if !group_references::met_in_group(
         file,
         row,
         counts,

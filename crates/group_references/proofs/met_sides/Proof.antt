@@ -1,7 +1,7 @@
 -- `met_sides` meets its contract. Assumes nothing.
 use borrow.Author.Needs.{needs}
-use Rattle.references.proofs.met_sides.Statement.{statement}
-use Rattle.references.proofs.met_sides.Tie as tie
+use Rattle.group_references.proofs.met_sides.Statement.{statement}
+use Rattle.group_references.proofs.met_sides.Tie as tie
 
 returns : tie.Need-returns
 returns c =

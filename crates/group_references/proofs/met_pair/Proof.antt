@@ -1,7 +1,7 @@
 -- `met_pair` meets its contract. Assumes nothing.
 use borrow.Author.Needs.{needs}
-use Rattle.references.proofs.met_pair.Statement.{statement}
-use Rattle.references.proofs.met_pair.Tie as tie
+use Rattle.group_references.proofs.met_pair.Statement.{statement}
+use Rattle.group_references.proofs.met_pair.Tie as tie
 
 returns : tie.Need-returns
 returns c = rw (← c .before .before .names-service .ensures, c .before .if1 .taken) (c .names-service2 .ensures)

@@ -2,8 +2,8 @@
 use borrow.Author.Needs.{needs}
 use borrow.Author.Tests.{eq-eqb, ne-eqb}
 use Rattle.iff_rules.specs.References.{metInBlock}
-use Rattle.references.proofs.met_in_block.Statement.{statement}
-use Rattle.references.proofs.met_in_block.Tie as tie
+use Rattle.block_references.proofs.met_in_block.Statement.{statement}
+use Rattle.block_references.proofs.met_in_block.Tie as tie
 
 returns : tie.Need-returns
 unfolding metInBlock

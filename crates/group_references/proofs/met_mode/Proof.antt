@@ -1,9 +1,9 @@
 -- `met_mode` meets its contract: the wildcard is looked up nowhere. Assumes nothing.
 use borrow.Author.Needs.{needs}
 use borrow.Author.Tests.{eq-eqb, ne-eqb}
 use Rattle.references.proofs.References.{any-mode}
-use Rattle.references.proofs.met_mode.Statement.{statement}
-use Rattle.references.proofs.met_mode.Tie as tie
+use Rattle.group_references.proofs.met_mode.Statement.{statement}
+use Rattle.group_references.proofs.met_mode.Tie as tie
 
 returns : tie.Need-returns
 returns c = rw (any-mode, eq-eqb _ _ (c .if1 .taken))

@@ -7,8 +7,8 @@ use Rattle.iff.specs.declared.RowFile.the-variants.{Country}
 use Rattle.iff.specs.declared.File.the-variants.{Rows}
 use Rattle.iff_rules.specs.References.{metByRow}
 use Rattle.keys.specs.Lookup.{keysAmong}
-use Rattle.references.proofs.met_station.Statement.{statement}
-use Rattle.references.proofs.met_station.Tie as tie
+use Rattle.row_references.proofs.met_station.Statement.{statement}
+use Rattle.row_references.proofs.met_station.Tie as tie
 
 -- the start, from the first lookup
 abbrev start : tie.After-names-at → tie.Start

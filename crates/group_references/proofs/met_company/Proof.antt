@@ -5,9 +5,9 @@ use borrow.Author.Needs.{needs}
 use borrow.Author.Tests.{eq-eqb, ne-eqb}
 use lib.Dec.{eqb}
 use Rattle.iff_rules.specs.References.{anyCompany}
 use Rattle.references.proofs.References.{any-company}
-use Rattle.references.proofs.met_company.Statement.{statement}
-use Rattle.references.proofs.met_company.Tie as tie
+use Rattle.group_references.proofs.met_company.Statement.{statement}
+use Rattle.group_references.proofs.met_company.Tie as tie
 
 -- the wildcard is written out, so that another code in the test is refused by its number
 returns : tie.Need-returns

@@ -1,8 +1,8 @@
 -- `met_by_row` meets its contract: of these files only STATIONS names anything. Assumes nothing.
 use borrow.Author.Needs.{needs}
 use Rattle.iff_rules.specs.References.{metByRow}
-use Rattle.references.proofs.met_by_row.Statement.{statement}
-use Rattle.references.proofs.met_by_row.Tie as tie
+use Rattle.row_references.proofs.met_by_row.Statement.{statement}
+use Rattle.row_references.proofs.met_by_row.Tie as tie
 
 returns : tie.Need-returns
 unfolding metByRow

@@ -1,7 +1,7 @@
 -- `met_side` meets its contract. Assumes nothing.
 use borrow.Author.Needs.{needs}
-use Rattle.references.proofs.met_side.Statement.{statement}
-use Rattle.references.proofs.met_side.Tie as tie
+use Rattle.group_references.proofs.met_side.Statement.{statement}
+use Rattle.group_references.proofs.met_side.Tie as tie
 
 returns : tie.Need-returns
 returns c = rw (← c .before .before .met-company .ensures, c .before .if1 .taken) (c .met-mode .ensures)

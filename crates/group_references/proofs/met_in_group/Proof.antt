@@ -3,8 +3,8 @@ use mathlib.Core.Path.{ap, _∙_}
 use borrow.Author.Needs.{needs}
 use Rattle.iff.specs.Tables.{groupWidth}
 use Rattle.iff_rules.specs.References.{metInGroup}
-use Rattle.references.proofs.met_in_group.Statement.{statement}
-use Rattle.references.proofs.met_in_group.Tie as tie
+use Rattle.group_references.proofs.met_in_group.Statement.{statement}
+use Rattle.group_references.proofs.met_in_group.Tie as tie
 
 -- the start, before the seven slices
 abbrev start : tie.After-shared-slice-known7 → tie.Start

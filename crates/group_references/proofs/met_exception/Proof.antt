@@ -3,9 +3,9 @@ use mathlib.Core.Path.{_∙_}
 use borrow.Author.Needs.{needs}
 use borrow.Author.Tests.{eq-eqb, ne-eqb}
 use Rattle.iff_rules.specs.References.{metInGroup}
-use Rattle.references.proofs.References.{sides-met}
-use Rattle.references.proofs.met_exception.Statement.{statement}
-use Rattle.references.proofs.met_exception.Tie as tie
+use Rattle.group_references.proofs.SideLaws.{sides-met}
+use Rattle.group_references.proofs.met_exception.Statement.{statement}
+use Rattle.group_references.proofs.met_exception.Tie as tie
 
 -- the start, before the six slices
 abbrev start : tie.After-shared-slice-known6 → tie.Start

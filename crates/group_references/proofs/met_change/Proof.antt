@@ -2,8 +2,8 @@
 use borrow.Author.Needs.{needs}
 use borrow.Author.Tests.{eq-eqb, ne-eqb}
 use Rattle.iff_rules.specs.References.{metInGroup}
-use Rattle.references.proofs.met_change.Statement.{statement}
-use Rattle.references.proofs.met_change.Tie as tie
+use Rattle.group_references.proofs.met_change.Statement.{statement}
+use Rattle.group_references.proofs.met_change.Tie as tie
 
 returns : tie.Need-returns
 unfolding metInGroup
