@@ -160,7 +160,7 @@ fn block_line(
         fresh st (record { body = now (line .entry); ended = ended }) ⌝ }
 {
     let letter = text::first_byte(line);
-    if !order::is_known_in_block(letter) {
+    if !first_bytes::is_known_in_block(letter) {
         return LineStep::Refused(iff::Reason::Layout);
     }
     let stand = st.stand;

@@ -25,7 +25,7 @@ fn is_right_alone(file: GroupFile, stand: GroupStand, row: &[u64], form: Form) -
     ensures { λ r. ⌜ r ≡ rightAlone form file stand (now (row .entry)) ⌝ }
 {
     let tag = row[words::TAG];
-    if !order::may_follow(file, stand, tag) {
+    if !group_order::may_follow(file, stand, tag) {
         return false;
     }
     let record = shapes::record_of(File::Groups(file), tag);

@@ -1,7 +1,7 @@
 -- `order::ends_opened` meets its contract, file by file. Assumes nothing.
 use borrow.Author.Needs.{needs}
-use Rattle.order.proofs.ends_opened.Statement.{statement}
-use Rattle.order.proofs.ends_opened.Tie as tie
+use Rattle.group_order.proofs.ends_opened.Statement.{statement}
+use Rattle.group_order.proofs.ends_opened.Tie as tie
 
 pub ends-opened-spec : {M : Type 1} → statement M
 ends-opened-spec =

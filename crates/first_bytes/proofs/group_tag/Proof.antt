@@ -1,7 +1,7 @@
 -- Each file's tag by its letter. Assumes nothing.
 use borrow.Author.Needs.{needs}
-use Rattle.order.proofs.group_tag.Statement.{statement}
-use Rattle.order.proofs.group_tag.Tie as tie
+use Rattle.first_bytes.proofs.group_tag.Statement.{statement}
+use Rattle.first_bytes.proofs.group_tag.Tie as tie
 
 pub group-tag-spec : {M : Type 1} → statement M
 group-tag-spec =

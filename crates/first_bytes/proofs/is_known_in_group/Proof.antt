@@ -1,8 +1,8 @@
 -- Each file's letters. Assumes nothing.
 use borrow.Author.Needs.{needs}
 use Rattle.iff.specs.Lists.{any}
-use Rattle.order.proofs.is_known_in_group.Statement.{statement}
-use Rattle.order.proofs.is_known_in_group.Tie as tie
+use Rattle.first_bytes.proofs.is_known_in_group.Statement.{statement}
+use Rattle.first_bytes.proofs.is_known_in_group.Tie as tie
 
 pub is-known-in-group-spec : {M : Type 1} → statement M
 unfolding any

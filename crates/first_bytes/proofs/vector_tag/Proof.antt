@@ -1,7 +1,7 @@
 -- The two letters stay, and what is neither has none. Assumes nothing.
 use borrow.Author.Tests.{ne-eqb}
-use Rattle.order.proofs.vector_tag.Statement.{statement}
-use Rattle.order.proofs.vector_tag.Tie as tie
+use Rattle.first_bytes.proofs.vector_tag.Statement.{statement}
+use Rattle.first_bytes.proofs.vector_tag.Tie as tie
 
 pub vector-tag-spec : {M : Type 1} → statement M
 vector-tag-spec =

@@ -1,7 +1,7 @@
 -- `order::is_only_vector` meets its contract. One vector, and no second. Assumes nothing.
 use borrow.Author.Needs.{needs}
-use Rattle.order.proofs.is_only_vector.Statement.{statement}
-use Rattle.order.proofs.is_only_vector.Tie as tie
+use Rattle.group_order.proofs.is_only_vector.Statement.{statement}
+use Rattle.group_order.proofs.is_only_vector.Tie as tie
 
 pub is-only-vector-spec : {M : Type 1} → statement M
 is-only-vector-spec =

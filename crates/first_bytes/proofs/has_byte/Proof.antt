@@ -5,9 +5,9 @@ use borrow.Author.Needs.{needs}
 use borrow.Author.Tests.{eq-eqb, ne-eqb}
 use lib.Dec.{eqb}
 use lib.ListN.{length}
-use Rattle.order.proofs.ByteLaws.{Seeking, finds, finds-none, seeks-on}
-use Rattle.order.proofs.has_byte.Statement.{statement}
-use Rattle.order.proofs.has_byte.Tie as tie
+use Rattle.first_bytes.proofs.ByteLaws.{Seeking, finds, finds-none, seeks-on}
+use Rattle.first_bytes.proofs.has_byte.Statement.{statement}
+use Rattle.first_bytes.proofs.has_byte.Tie as tie
 
 abbrev Inv-loop : tie.InvT-loop
 Inv-loop bytes b i₀ i = Seeking (eqb b) bytes i

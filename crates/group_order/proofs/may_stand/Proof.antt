@@ -1,7 +1,7 @@
 -- `order::may_stand` meets its contract. What may stand behind the `#`, file by file. Assumes nothing.
 use borrow.Author.Needs.{needs}
-use Rattle.order.proofs.may_stand.Statement.{statement}
-use Rattle.order.proofs.may_stand.Tie as tie
+use Rattle.group_order.proofs.may_stand.Statement.{statement}
+use Rattle.group_order.proofs.may_stand.Tie as tie
 
 pub may-stand-spec : {M : Type 1} → statement M
 may-stand-spec =

@@ -2,8 +2,8 @@
 use mathlib.Core.Path.{_∙_}
 use borrow.Author.Needs.{needs}
 use Rattle.iff_rules.specs.Order.{mayFollow}
-use Rattle.order.proofs.may_follow.Statement.{statement}
-use Rattle.order.proofs.may_follow.Tie as tie
+use Rattle.group_order.proofs.may_follow.Statement.{statement}
+use Rattle.group_order.proofs.may_follow.Tie as tie
 
 pub may-follow-spec : {M : Type 1} → statement M
 unfolding mayFollow

@@ -1,7 +1,7 @@
 -- `order::is_sign` meets its contract. The two signs of a period. Assumes nothing.
 use borrow.Author.Tests.{eq-eqb, ne-eqb}
-use Rattle.order.proofs.is_sign.Statement.{statement}
-use Rattle.order.proofs.is_sign.Tie as tie
+use Rattle.group_order.proofs.is_sign.Statement.{statement}
+use Rattle.group_order.proofs.is_sign.Tie as tie
 
 returns : tie.Need-returns
 returns c = rw (eq-eqb _ _ (c .if1 .taken))
