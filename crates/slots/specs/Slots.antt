@@ -12,8 +12,8 @@ use Rattle.iff.specs.Tables.{word, rowWidth, rowAt, keyTag, keyWord, keysOf, ke
 use Rattle.keys.specs.Blocks.{rowsBetween}
 use Rattle.keys.specs.Lookup.{isKeyRow}
 use Rattle.keys.specs.Places.{probes, placeOf}
-use Rattle.index.specs.declared.Met.{Met}
-use Rattle.index.specs.declared.Met.the-variants.{Free, Taken, Full}
+use Rattle.slots.specs.declared.Met.{Met}
+use Rattle.slots.specs.declared.Met.the-variants.{Free, Taken, Full}
 
 -- the last row whose number fits a slot
 abbrev pub lastRow : ℕ

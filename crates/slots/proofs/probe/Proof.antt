@@ -3,10 +3,10 @@ use Prim.Native.Nat.{_-_, _≤_}
 use native.Mathlib.Omega.{arith}
 use borrow.Author.Needs.{needs}
 use Rattle.keys.proofs.Lookup.{key-column}
-use Rattle.index.specs.Slots.{AllPassed}
-use Rattle.index.proofs.SlotLaws.{none-passed, one-passed, free-met, taken-met, full-met}
-use Rattle.index.proofs.probe.Statement.{statement}
-use Rattle.index.proofs.probe.Tie as tie
+use Rattle.slots.specs.Slots.{AllPassed}
+use Rattle.slots.proofs.SlotLaws.{none-passed, one-passed, free-met, taken-met, full-met}
+use Rattle.slots.proofs.probe.Statement.{statement}
+use Rattle.slots.proofs.probe.Tie as tie
 
 abbrev Inv-loop : tie.InvT-loop
 Inv-loop t i places key w tag col from end at₀ at = (from ≤ at) × AllPassed w tag col t i key places from at

@@ -17,9 +17,9 @@ use Rattle.keys.specs.Places.{probes, placeOf}
 use Rattle.keys.proofs.Among.{any-row}
 use Rattle.keys.proofs.PlaceLaws.{place-inside}
 use Rattle.fresh_keys.proofs.Runs.{and-left, and-right}
-use Rattle.index.specs.Slots.{lastRow, namesAt, keyAt, keysBetween, PutBefore, Stands, Index}
-use Rattle.index.specs.Slots.{earlier, Passed, AllPassed, PassedFor, FirstFree, Probed}
-use Rattle.index.specs.declared.Met.the-variants.{Free, Taken, Full}
+use Rattle.slots.specs.Slots.{lastRow, namesAt, keyAt, keysBetween, PutBefore, Stands, Index}
+use Rattle.slots.specs.Slots.{earlier, Passed, AllPassed, PassedFor, FirstFree, Probed}
+use Rattle.slots.specs.declared.Met.the-variants.{Free, Taken, Full}
 
 -- what is in another slot stays, and a free slot is none that was put into
 module _ (ps : List ℕ) (s row x : ℕ) (there : s < length ps) (some : 0 < row) (e : getD (set ps s row) x 0 ≡ 0) where

@@ -5,9 +5,9 @@ use borrow.Author.Needs.{needs}
 use lib.ListN.{length}
 use Rattle.keys.specs.Places.{probes}
 use Rattle.keys.proofs.PlaceLaws.{place-inside}
-use Rattle.index.proofs.KeyLaws.{searched, put-free, searched-full, put-taken}
-use Rattle.index.proofs.put_key.Statement.{statement}
-use Rattle.index.proofs.put_key.Tie as tie
+use Rattle.slot_puts.proofs.PutLaws.{searched, put-free, searched-full, put-taken}
+use Rattle.slot_puts.proofs.put_key.Statement.{statement}
+use Rattle.slot_puts.proofs.put_key.Tie as tie
 
 returns : tie.Need-returns
 returns c =

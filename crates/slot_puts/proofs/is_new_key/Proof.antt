@@ -4,9 +4,9 @@ use mathlib.Core.Bool.{not}
 use borrow.Author.Needs.{needs}
 use Rattle.iff.specs.Lists.{has}
 use Rattle.keys.proofs.Among.{keys-there}
-use Rattle.index.proofs.KeyLaws.{new-by-run}
-use Rattle.index.proofs.is_new_key.Statement.{statement}
-use Rattle.index.proofs.is_new_key.Tie as tie
+use Rattle.slot_puts.proofs.PutLaws.{new-by-run}
+use Rattle.slot_puts.proofs.is_new_key.Statement.{statement}
+use Rattle.slot_puts.proofs.is_new_key.Tie as tie
 
 returns : tie.Need-returns
 returns c =

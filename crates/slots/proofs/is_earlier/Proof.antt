@@ -1,8 +1,8 @@
 -- `is_earlier` meets its contract. Assumes nothing.
 use borrow.Author.Tests.{lt-ltb, le-ltb}
 use Rattle.tables.proofs.Rows.{row-inside}
-use Rattle.index.proofs.is_earlier.Statement.{statement}
-use Rattle.index.proofs.is_earlier.Tie as tie
+use Rattle.slots.proofs.is_earlier.Statement.{statement}
+use Rattle.slots.proofs.is_earlier.Tie as tie
 
 keyed-at-requires : tie.Need-keyed-at-requires
 keyed-at-requires c κs =
