@@ -34,7 +34,7 @@ pub fn met_in_block(
         return true;
     }
     if tag == tags::PERCENT {
-        return keys::names_at(
+        return lookups::names_at(
             File::Rows(RowFile::Company),
             companies,
             counts.companies,
@@ -43,7 +43,7 @@ pub fn met_in_block(
         );
     }
     if tag == tags::DASH {
-        return keys::names_at(
+        return lookups::names_at(
             File::Groups(GroupFile::Footnote),
             footnotes,
             counts.footnotes,
@@ -52,7 +52,7 @@ pub fn met_in_block(
         );
     }
     if tag == tags::AMPERSAND {
-        return keys::names_at(
+        return lookups::names_at(
             File::Rows(RowFile::Trnsmode),
             modes,
             counts.modes,
@@ -61,7 +61,7 @@ pub fn met_in_block(
         );
     }
     if tag == tags::ASTERISK {
-        return keys::names_at(
+        return lookups::names_at(
             File::Groups(GroupFile::Footnote),
             footnotes,
             counts.footnotes,
@@ -70,7 +70,7 @@ pub fn met_in_block(
         );
     }
     if tag == tags::QUESTION {
-        return keys::names_at(
+        return lookups::names_at(
             File::Groups(GroupFile::Footnote),
             footnotes,
             counts.footnotes,
@@ -78,7 +78,7 @@ pub fn met_in_block(
             name,
         );
     }
-    keys::names_at(
+    lookups::names_at(
         File::Rows(RowFile::Stations),
         stations,
         counts.stations,

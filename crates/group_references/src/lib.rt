@@ -26,8 +26,8 @@ ghost use Rattle.references.specs.Agree.{GroupKeysAmong, ChangeKeysAmong, Excep
 fn met_pair(from: u64, to: u64, used: usize, services: &[u64], places: &[u32]) -> bool
     ensures { λ r. ⌜ r ≡ (has from (keysAmong Timetbls used (now (services .entry))) && has to (keysAmong Timetbls used (now (services .entry)))) ⌝ }
 {
-    if keys::names_service(services, used, places, from) {
-        return keys::names_service(services, used, places, to);
+    if lookups::names_service(services, used, places, from) {
+        return lookups::names_service(services, used, places, to);
     }
     false
 }
@@ -46,7 +46,7 @@ fn met_change(
         → r ≡ metInGroup c Changes (now (row .entry))) ⌝ }
 {
     if row[words::TAG] == tags::HASH {
-        return keys::names_at(
+        return lookups::names_at(
             File::Rows(RowFile::Stations),
             stations,
             counts.stations,
@@ -70,7 +70,7 @@ fn met_company(company: u64, used: usize, companies: &[u64], places: &[u32]) -> 
     if company == ANY_COMPANY {
         return true;
     }
-    keys::names_at(
+    lookups::names_at(
         File::Rows(RowFile::Company),
         companies,
         used,
@@ -86,7 +86,7 @@ fn met_mode(mode: u64, used: usize, modes: &[u64], places: &[u32]) -> bool
     if mode == ANY_MODE {
         return true;
     }
-    keys::names_at(File::Rows(RowFile::Trnsmode), modes, used, places, mode)
+    lookups::names_at(File::Rows(RowFile::Trnsmode), modes, used, places, mode)
 }
 
 // One side of an exception: the service changed from, or the one changed to.
@@ -134,7 +134,7 @@ fn met_sides(
             modes,
             places,
         ) {
-            return keys::names_at(
+            return lookups::names_at(
                 File::Groups(GroupFile::Xfootnote),
                 xfootnotes,
                 counts.xfootnotes,
@@ -163,7 +163,7 @@ fn met_exception(
         → r ≡ metInGroup c Xchanges (now (row .entry))) ⌝ }
 {
     if row[words::TAG] == tags::HASH {
-        return keys::names_at(
+        return lookups::names_at(
             File::Rows(RowFile::Stations),
             stations,
             counts.stations,

@@ -25,14 +25,14 @@ fn met_station(
     ensures { λ r. ⌜ ((c : Context) → StationKeysAmong c counts (now (countries .entry)) (now (zones .entry))
         → r ≡ metByRow c Stations (now (row .entry))) ⌝ }
 {
-    if keys::names_at(
+    if lookups::names_at(
         File::Rows(RowFile::Country),
         countries,
         counts.countries,
         places,
         row[words::STATION_COUNTRY],
     ) {
-        return keys::names_at(
+        return lookups::names_at(
             File::Groups(GroupFile::Timezone),
             zones,
             counts.zones,

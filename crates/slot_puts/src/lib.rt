@@ -19,7 +19,7 @@ fn is_new_key(file: iff::File, t: &[u64], i: usize, run: fresh_keys::KeyRun, key
     if next.rises {
         return true;
     }
-    !keys::names_among(file, t, i, key)
+    !lookups::names_among(file, t, i, key)
 }
 
 // Tests the key of row `i`, and puts the row into the first free slot for it where it is new. A free slot that is met before any row of the key

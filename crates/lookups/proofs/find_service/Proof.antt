@@ -1,8 +1,8 @@
 -- `find_service` meets its contract: what any of the searches finds was tested, and the scan tells the rest. Assumes nothing.
 use borrow.Author.Needs.{needs}
 use Rattle.keys.proofs.Among.{hit-found}
-use Rattle.keys.proofs.find_service.Statement.{statement}
-use Rattle.keys.proofs.find_service.Tie as tie
+use Rattle.lookups.proofs.find_service.Statement.{statement}
+use Rattle.lookups.proofs.find_service.Tie as tie
 
 returns : tie.Need-returns
 returns c = hit-found _ _ _ _ _ (c .before .before .before .found-by-place .ensures) _ (c .before .i .given .1)

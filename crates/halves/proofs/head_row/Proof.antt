@@ -1,7 +1,7 @@
 -- `head_row` meets its contract: no row stands behind the one that is handed over. Assumes nothing.
 use borrow.Author.Needs.{needs}
-use Rattle.keys.proofs.head_row.Statement.{statement}
-use Rattle.keys.proofs.head_row.Tie as tie
+use Rattle.halves.proofs.head_row.Statement.{statement}
+use Rattle.halves.proofs.head_row.Tie as tie
 
 block-head-requires : tie.Need-block-head-requires
 block-head-requires c κs = rw (c .enum-told3 .given .1) at (c .before .before .before .pre .1)

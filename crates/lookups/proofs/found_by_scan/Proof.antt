@@ -4,12 +4,12 @@ use mathlib.Core.Path.{_≡_, refl, _∙_}
 use borrow.Author.Needs.{needs}
 use Rattle.iff.specs.Lists.{any}
 use Rattle.iff.specs.Tables.{keyed}
 use Rattle.keys.specs.Blocks.{rowsBetween}
 use Rattle.keys.proofs.Blocks.{none-left, one-on}
 use Rattle.keys.proofs.Lookup.{key-column}
 use Rattle.keys.proofs.Among.{row-among, row-found, none-found}
-use Rattle.keys.proofs.found_by_scan.Statement.{statement}
-use Rattle.keys.proofs.found_by_scan.Tie as tie
+use Rattle.lookups.proofs.found_by_scan.Statement.{statement}
+use Rattle.lookups.proofs.found_by_scan.Tie as tie
 
 abbrev Inv-loop : tie.InvT-loop
 Inv-loop t used key w tag col rows i₀ i =

@@ -1,8 +1,8 @@
 -- `find_among` meets its contract: what the first search finds was tested, and the second tells the rest. Assumes nothing.
 use borrow.Author.Needs.{needs}
 use Rattle.keys.proofs.Among.{hit-found}
-use Rattle.keys.proofs.find_among.Statement.{statement}
-use Rattle.keys.proofs.find_among.Tie as tie
+use Rattle.lookups.proofs.find_among.Statement.{statement}
+use Rattle.lookups.proofs.find_among.Tie as tie
 
 returns : tie.Need-returns
 returns c = hit-found _ _ _ _ _ (c .before .before .before .found-by-halves .ensures) _ (c .before .i .given .1)

@@ -2,10 +2,10 @@
 use Prim.Native.Nat.{_-_, _≤_, _<_}
 use borrow.Author.Needs.{needs}
 use native.Mathlib.Omega.{arith}
 use Rattle.keys.proofs.Lookup.{key-column}
 use Rattle.keys.proofs.Among.{row-among, row-hit, hit-none}
-use Rattle.keys.proofs.found_by_halves.Statement.{statement}
-use Rattle.keys.proofs.found_by_halves.Tie as tie
+use Rattle.halves.proofs.found_by_halves.Statement.{statement}
+use Rattle.halves.proofs.found_by_halves.Tie as tie
 
 abbrev Inv-loop : tie.InvT-loop
 Inv-loop file t used key w tag col rows low₀ high₀ low high = (0 < low) × (high ≤ rows)

@@ -2,10 +2,10 @@
 use Prim.Native.Nat.{_-_}
 use native.Mathlib.Omega.{arith}
 use borrow.Author.Needs.{needs}
 use Rattle.keys.proofs.Lookup.{key-column}
 use Rattle.keys.proofs.Among.{row-among, row-hit, hit-none}
-use Rattle.keys.proofs.found_by_place.Statement.{statement}
-use Rattle.keys.proofs.found_by_place.Tie as tie
+use Rattle.key_places.proofs.found_by_place.Statement.{statement}
+use Rattle.key_places.proofs.found_by_place.Tie as tie
 
 abbrev Inv-loop : tie.InvT-loop
 Inv-loop t used places key slots w tag col rows at₀ end at = Unit {0}

@@ -4,9 +4,9 @@ use mathlib.Core.Path.{refl}
 use native.Mathlib.Omega.{arith}
 use Rattle.iff.specs.Tables.{rowWidth, keyTag, keyWord}
 use Rattle.iff.specs.declared.File.the-variants.{Timetbls}
 use Rattle.keys.proofs.Among.{row-among, row-hit, hit-none}
-use Rattle.keys.proofs.found_by_blocks.Statement.{statement}
-use Rattle.keys.proofs.found_by_blocks.Tie as tie
+use Rattle.lookups.proofs.found_by_blocks.Statement.{statement}
+use Rattle.lookups.proofs.found_by_blocks.Tie as tie
 
 abbrev Inv-loop : tie.InvT-loop
 Inv-loop t used key rows i₀ i = 0 < i
