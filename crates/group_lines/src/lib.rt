@@ -270,7 +270,7 @@ fn add_row(
     ) {
         Test::Fails(r) => LinePut::Refused(r),
         Test::Passes => {
-            tables::put_row(t, row.len(), rows, row);
+            table_writes::put_row(t, row.len(), rows, row);
             let from = rows - group.size + 1;
             group_marks::remember(file, from, row, marks);
             let after = open_after(group, row[iff::words::TAG], row[iff::words::NAMED]);

@@ -46,7 +46,7 @@ pub fn names(file: iff::File, t: &[u64], key: u64) -> bool
     let w = tables::row_width(file);
     let tag = key_tag(file);
     let col = key_word(file);
-    tables::has_key(t, w, tag, col, key)
+    key_rows::has_key(t, w, tag, col, key)
 }
 
 // How many rows of a table are in use.

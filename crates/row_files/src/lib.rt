@@ -107,7 +107,7 @@ fn store_row(
         Test::Fails(r) => RowKept::Refused(r),
         Test::Passes => {
             let k = keys::key_word(File::Rows(file));
-            tables::put_row(t, row.len(), count + 1, row);
+            table_writes::put_row(t, row.len(), count + 1, row);
             RowKept::Key(row[k])
         }
     }

@@ -4,11 +4,11 @@ use mathlib.Core.Path.{_≡_, refl, sym, _∙_}
 use native.Mathlib.Omega.{arith}
 use borrow.Author.Needs.{needs}
 use Rattle.iff.specs.Tables.{keyed, firstRow}
 use Rattle.tables.proofs.Rows.{row-inside}
 use Rattle.tables.proofs.Rest.{rest}
 use Rattle.tables.proofs.Search.{search-none, search-unused, search-here, search-on}
-use Rattle.tables.proofs.find_key_in.Statement.{statement}
-use Rattle.tables.proofs.find_key_in.Tie as tie
+use Rattle.key_rows.proofs.find_key_in.Statement.{statement}
+use Rattle.key_rows.proofs.find_key_in.Tie as tie
 
 abbrev Inv-loop : tie.InvT-loop
 Inv-loop t w from to tag col key i₀ i = firstRow (keyed tag col key) from (rest w to t from) ≡ firstRow (keyed tag col key) i (rest w to t i)

@@ -1,9 +1,9 @@
 -- `find_key` meets its contract: it searches all the rows. Assumes nothing.
 use native.Mathlib.Nat.{div-mul-le-self}
 use borrow.Author.Needs.{needs}
 use Rattle.tables.proofs.Search.{search-all}
-use Rattle.tables.proofs.find_key.Statement.{statement}
-use Rattle.tables.proofs.find_key.Tie as tie
+use Rattle.key_rows.proofs.find_key.Statement.{statement}
+use Rattle.key_rows.proofs.find_key.Tie as tie
 
 returns : tie.Need-returns
 returns c = search-all _ _ _ _ _ (c .find-key-in .ensures)

@@ -5,9 +5,9 @@ use native.Mathlib.Omega.{arith}
 use borrow.Author.Needs.{needs}
 use lib.ListN.{length, length-set}
 use lib.Seq.{paste, paste-zero}
-use Rattle.tables.proofs.Copy.{copy-next, copy-end}
-use Rattle.tables.proofs.put_row.Statement.{statement}
-use Rattle.tables.proofs.put_row.Tie as tie
+use Rattle.table_writes.proofs.Copy.{copy-next, copy-end}
+use Rattle.table_writes.proofs.put_row.Statement.{statement}
+use Rattle.table_writes.proofs.put_row.Tie as tie
 
 abbrev Inv-loop : tie.InvT-loop
 Inv-loop t₀ w i row at k₀ t k = (k ≤ w) × (t ≡ paste t₀ (i * w) row k) × (length t ≡ length t₀)

@@ -1,9 +1,9 @@
 -- `has_key` meets its contract: there is such a row exactly when a first one is found. Assumes nothing.
 use mathlib.Core.Path.{_∙_, ap, sym}
 use borrow.Author.Needs.{needs}
 use Rattle.tables.proofs.First.{found, any-found}
-use Rattle.tables.proofs.has_key.Statement.{statement}
-use Rattle.tables.proofs.has_key.Tie as tie
+use Rattle.key_rows.proofs.has_key.Statement.{statement}
+use Rattle.key_rows.proofs.has_key.Tie as tie
 
 returns : tie.Need-returns
 returns c = sym (ap found (c .enum-told .given .1)) ∙ ap found (c .before .before .find-key .ensures) ∙ any-found _ _ _

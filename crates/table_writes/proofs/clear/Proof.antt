@@ -6,8 +6,8 @@ use native.Mathlib.Omega.{arith}
 use borrow.Author.Needs.{needs}
 use borrow.Author.Fill.{fill-more}
 use lib.ListN.{length, replicate, drop, drop-of-length-le, length-set, set}
-use Rattle.tables.proofs.clear.Statement.{statement}
-use Rattle.tables.proofs.clear.Tie as tie
+use Rattle.table_writes.proofs.clear.Statement.{statement}
+use Rattle.table_writes.proofs.clear.Tie as tie
 
 abbrev Inv-loop : tie.InvT-loop
 Inv-loop t₀ i₀ t i = (i ≤ length t) × (t ≡ replicate i 0 ++ drop i t₀) × (length t ≡ length t₀)
