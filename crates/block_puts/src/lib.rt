@@ -184,7 +184,7 @@ fn judge_again(
         (now (companies .entry)) (now (modes .entry)) (now (stations .entry)) (now (footnotes .entry)) (now (t .entry)) (now (t .exit)) row r ⌝ }
 {
     let service = blocks::service_of(block);
-    let came = keys::names_among(iff::File::Timetbls, t, row, service);
+    let came = lookups::names_among(iff::File::Timetbls, t, row, service);
     check_then_write(
         block,
         form,

@@ -34,7 +34,7 @@ fn put_line(line: &[u8], form: iff::Form, k: u64, n: u64, j: u64, t: &mut [u64],
 {
     let mut row = [0u64; tables::BLOCK_WIDTH];
     fill_row(line, form, k, n, j, &mut row);
-    tables::put_row(t, tables::BLOCK_WIDTH, i, &row);
+    table_writes::put_row(t, tables::BLOCK_WIDTH, i, &row);
 }
 
 // The rows of a block of `k` lines and `n` stops that was found whole, from row `start` on. What stands before and behind them is kept.

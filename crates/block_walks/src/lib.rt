@@ -109,7 +109,7 @@ fn clear_blocks(t: &mut [u64])
     ensures { λ _. ⌜ now (t .exit) ≡ firstAlone (now (t .entry)) ⌝ }
 {
     let behind = tables::BLOCK_WIDTH;
-    tables::clear(&mut t[behind..]);
+    table_writes::clear(&mut t[behind..]);
 }
 
 // The blocks, with the first service that came twice found out at the end, where not each was told to be new. Its block was put, so nothing else is

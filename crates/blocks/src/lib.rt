@@ -77,7 +77,7 @@ fn row_test(
     if !is_new(row[iff::words::TAG], fresh) {
         return iff::Test::Fails(iff::Reason::Duplicate);
     }
-    if !references::met_in_block(row, counts, companies, modes, stations, footnotes, places) {
+    if !block_references::met_in_block(row, counts, companies, modes, stations, footnotes, places) {
         return iff::Test::Fails(iff::Reason::Reference);
     }
     iff::Test::Passes
@@ -160,7 +160,7 @@ fn block_line(
         fresh st (record { body = now (line .entry); ended = ended }) ⌝ }
 {
     let letter = text::first_byte(line);
-    if !order::is_known_in_block(letter) {
+    if !first_bytes::is_known_in_block(letter) {
         return LineStep::Refused(iff::Reason::Layout);
     }
     let stand = st.stand;

@@ -60,7 +60,7 @@ fn plain_row_test(
     if !row_marks::are_texts_new(file, marks, before, line) {
         return Test::Fails(Reason::Duplicate);
     }
-    if !references::met_by_row(file, row, countries, zones, counts, places) {
+    if !row_references::met_by_row(file, row, countries, zones, counts, places) {
         return Test::Fails(Reason::Reference);
     }
     Test::Passes
@@ -102,7 +102,7 @@ fn store_row(
         Test::Fails(r) => RowKept::Refused(r),
         Test::Passes => {
             let k = keys::key_word(File::Rows(file));
-            tables::put_row(t, row.len(), count + 1, row);
+            table_writes::put_row(t, row.len(), count + 1, row);
             RowKept::Key(row[k])
         }
     }

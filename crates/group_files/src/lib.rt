@@ -93,7 +93,7 @@ fn add_lines(
         }
     }
     let stand = group.stand;
-    if !order::may_end(file, stand) {
+    if !group_order::may_end(file, stand) {
         return RowsRead::Stopped(
             Reason::Order,
             Place::At(File::Groups(file), 0, reading::line_number(read)),

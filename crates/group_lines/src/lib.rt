@@ -51,11 +51,11 @@ pub fn opening(run: KeyRun) -> Open
 fn place_test(file: GroupFile, stand: GroupStand, letter: u8) -> Test
     ensures { λ r. ⌜ r ≡ placeTest file stand letter ⌝ }
 {
-    if !order::is_known_in_group(file, letter) {
+    if !first_bytes::is_known_in_group(file, letter) {
         return Test::Fails(Reason::Layout);
     }
-    let tag = order::group_tag(file, letter);
-    if !order::may_follow(file, stand, tag) {
+    let tag = first_bytes::group_tag(file, letter);
+    if !group_order::may_follow(file, stand, tag) {
         return Test::Fails(Reason::Order);
     }
     Test::Passes
@@ -78,7 +78,7 @@ fn make_row(
         Test::Fails(r) => Test::Fails(r),
         Test::Passes => {
             let kind = records::group_record(file, letter);
-            let tag = order::group_tag(file, letter);
+            let tag = first_bytes::group_tag(file, letter);
             records::read_line(kind, tag, form, line, ended, row)
         }
     }
@@ -136,7 +136,7 @@ fn row_test(
     if !is_unique(file, rows, group, row, t, marks) {
         return Test::Fails(Reason::Duplicate);
     }
-    if !references::met_in_group(
+    if !group_references::met_in_group(
         file,
         row,
         counts,
@@ -215,7 +215,7 @@ fn open_after(group: Open, tag: u64, key: u64) -> Open
 {
     let stand = group.stand;
     let run = group.run;
-    let moved = order::group_moves(stand);
+    let moved = group_order::group_moves(stand);
     let after = run_after(run, tag, key);
     Open {
         size: group.size + 1,
@@ -270,7 +270,7 @@ fn add_row(
     ) {
         Test::Fails(r) => LinePut::Refused(r),
         Test::Passes => {
-            tables::put_row(t, row.len(), rows, row);
+            table_writes::put_row(t, row.len(), rows, row);
             let from = rows - group.size + 1;
             group_marks::remember(file, from, row, marks);
             let after = open_after(group, row[iff::words::TAG], row[iff::words::NAMED]);
@@ -353,7 +353,7 @@ pub fn group_line(
 {
     if text::first_byte(line) == b'#' {
         let stand = group.stand;
-        if !order::may_end(file, stand) {
+        if !group_order::may_end(file, stand) {
             return LinePut::Early;
         }
         let run = group.run;

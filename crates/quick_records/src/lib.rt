@@ -104,7 +104,7 @@ pub fn train_number(
     let number = text::number(&line[5..10]);
     let first = stop_word(&line[19..22], n);
     let last = stop_word(&line[23..26], n);
-    let iff::RowOf::Row(_) = keys::found_by_place(
+    let iff::RowOf::Row(_) = key_places::found_by_place(
         File::Rows(RowFile::Company),
         companies,
         used,
@@ -143,7 +143,7 @@ pub fn validity(
     let footnote = text::number(&line[1..6]);
     let first = stop_word(&line[7..10], n);
     let last = stop_word(&line[11..14], n);
-    let iff::RowOf::Row(_) = keys::found_by_place(
+    let iff::RowOf::Row(_) = key_places::found_by_place(
         File::Groups(GroupFile::Footnote),
         footnotes,
         used,
@@ -185,7 +185,7 @@ pub fn transport(
     let mode = text::code(&line[1..5]);
     let first = stop_word(&line[6..9], n);
     let last = stop_word(&line[10..13], n);
-    let iff::RowOf::Row(_) = keys::found_by_place(
+    let iff::RowOf::Row(_) = key_places::found_by_place(
         File::Rows(RowFile::Trnsmode),
         modes,
         used,
@@ -228,7 +228,7 @@ pub fn attribute(
     let first = stop_word(&line[6..9], n);
     let last = stop_word(&line[10..13], n);
     let footnote = text::number(&line[14..19]);
-    let iff::RowOf::Row(_) = keys::found_by_place(
+    let iff::RowOf::Row(_) = key_places::found_by_place(
         File::Groups(GroupFile::Footnote),
         footnotes,
         used,
@@ -276,7 +276,7 @@ pub fn plain_stop(
     if !clock::is_time(time) {
         return untold();
     }
-    let iff::RowOf::Row(_) = keys::found_by_place(
+    let iff::RowOf::Row(_) = key_places::found_by_place(
         File::Rows(RowFile::Stations),
         stations,
         used,
@@ -325,7 +325,7 @@ pub fn interval(
     if !clock::is_interval(arrival, departure) {
         return untold();
     }
-    let iff::RowOf::Row(_) = keys::found_by_place(
+    let iff::RowOf::Row(_) = key_places::found_by_place(
         File::Rows(RowFile::Stations),
         stations,
         used,
@@ -365,7 +365,7 @@ pub fn passed(
         return untold();
     }
     let station = text::code(&line[1..8]);
-    let iff::RowOf::Row(_) = keys::found_by_place(
+    let iff::RowOf::Row(_) = key_places::found_by_place(
         File::Rows(RowFile::Stations),
         stations,
         used,
@@ -402,7 +402,7 @@ pub fn platform(
     let end = at + 18;
     let line = &text[at..end];
     let footnote = text::number(&line[13..18]);
-    let iff::RowOf::Row(_) = keys::found_by_place(
+    let iff::RowOf::Row(_) = key_places::found_by_place(
         File::Groups(GroupFile::Footnote),
         footnotes,
         used,

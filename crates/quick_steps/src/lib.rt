@@ -137,7 +137,7 @@ fn put_words(
         return LinePut::Unsure;
     }
     let row = [letter as u64, w.one, w.two, w.three, w.four, 0, number];
-    tables::put_row(t, tables::BLOCK_WIDTH, i, &row);
+    table_writes::put_row(t, tables::BLOCK_WIDTH, i, &row);
     let next = at + w.width + 2;
     let after = stops + stop_for(letter);
     LinePut::Next(

@@ -422,7 +422,7 @@ fn put_fields(tag: u64, n: u64, line: &[u8], first: usize, end: usize, out: &mut
     requires { ⌜ Entries first end (now line) × (end - first < length (now out)) ⌝ }
     ensures { λ _. ⌜ now (out .exit) ≡ padded (length (now (out .entry))) (tag ∷ words n (now (line .entry)) (slice first end fields)) ⌝ }
 {
-    tables::clear(out);
+    table_writes::clear(out);
     out[0] = tag;
     let mut k: usize = 1;
     let mut j = first;
@@ -449,7 +449,7 @@ fn put_marks(tag: u64, line: &[u8], out: &mut [u64])
     requires { ⌜ (all zeroOrOne (now line) ≡ true) × (vectorWidth < length (now out)) ⌝ }
     ensures { λ _. ⌜ now (out .exit) ≡ padded (length (now (out .entry))) (tag ∷ vectorWords vectorWidth (now (line .entry))) ⌝ }
 {
-    tables::clear(out);
+    table_writes::clear(out);
     out[0] = tag;
     let mut i: usize = 0;
     while i < iff::limits::MARK_WORDS {

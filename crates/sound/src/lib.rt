@@ -476,7 +476,7 @@ fn are_all_sound(
     ) {
         return false;
     }
-    keys::names_at(
+    lookups::names_at(
         File::Rows(RowFile::Company),
         company,
         used.company,

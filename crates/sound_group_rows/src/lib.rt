@@ -25,7 +25,7 @@ fn is_right_alone(file: GroupFile, stand: GroupStand, row: &[u64], form: Form) -
     ensures { λ r. ⌜ r ≡ rightAlone form file stand (now (row .entry)) ⌝ }
 {
     let tag = row[words::TAG];
-    if !order::may_follow(file, stand, tag) {
+    if !group_order::may_follow(file, stand, tag) {
         return false;
     }
     let record = shapes::record_of(File::Groups(file), tag);
@@ -81,7 +81,7 @@ fn is_row_sound(
     if !is_fresh(file, t, from, i, row, marks) {
         return false;
     }
-    if !references::met_in_group(
+    if !group_references::met_in_group(
         file,
         row,
         counts,

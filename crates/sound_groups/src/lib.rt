@@ -59,10 +59,10 @@ fn is_group_sound(
         ) {
             return false;
         }
-        stand = order::group_moves(stand);
+        stand = group_order::group_moves(stand);
         i += 1;
     }
-    order::may_end(file, stand)
+    group_order::may_end(file, stand)
 }
 
 // The groups behind the row of the first line, up to row `used`. No row stands before the first of them.

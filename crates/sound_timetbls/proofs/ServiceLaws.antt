@@ -22,7 +22,7 @@ use Rattle.keys.specs.Lookup.{keysAmong}
 use Rattle.keys.proofs.Among.{any-row}
 use Rattle.repeats.specs.Classes.{servicesFrom}
 use Rattle.repeats.proofs.RowLaws.{next-service, same-services, none-left}
-use Rattle.index.specs.Slots.{keyAt}
+use Rattle.slots.specs.Slots.{keyAt}
 use Rattle.index.specs.Keying.{Indexed}
 use Rattle.index.specs.declared.Next.{Next}
 use Rattle.index.specs.declared.Next.the-variants.{Came, Goes}

@@ -34,7 +34,7 @@ fn stray_test(text: &[u8], from: usize) -> iff::Test
     if letter == b'#' {
         return iff::Test::Passes;
     }
-    if order::is_known_in_block(letter) {
+    if first_bytes::is_known_in_block(letter) {
         return iff::Test::Fails(iff::Reason::Order);
     }
     iff::Test::Fails(iff::Reason::Layout)
