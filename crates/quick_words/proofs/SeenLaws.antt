@@ -25,8 +25,8 @@ use Rattle.iff_rules.specs.Meaning.{blockMeaning}
 use Rattle.iff_rules.specs.References.{metInBlock}
 use Rattle.records.specs.Layouts.{legible}
 use Rattle.quick_lines.specs.Pictures.{columnsAt, lineHere}
-use Rattle.quick_records.specs.Told.{Told, Alike, Seen}
-use Rattle.quick_records.specs.declared.Words.{Words}
+use Rattle.quick_words.specs.Told.{Told, Alike, Seen}
+use Rattle.quick_words.specs.declared.Words.{Words}
 
 -- a line of some columns begins with the byte that stands there
 first-of : (w : ℕ) (s : List ℕ) → 0 < w → getD (take w s) 0 0 ≡ getD s 0 0

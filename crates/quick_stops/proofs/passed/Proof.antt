@@ -1,4 +1,4 @@
--- `quick_records::passed` meets its contract: the law of its fields, and what it names was found. Assumes nothing.
+-- `quick_stops::passed` meets its contract: the law of its fields, and what it names was found. Assumes nothing.
 use mathlib.Core.Path.{refl, ap, sym, _∙_}
 use native.Mathlib.Omega.{arith}
 use borrow.Author.Needs.{needs}
@@ -8,9 +8,9 @@ use Rattle.iff.specs.declared.RowFile.the-variants.{Stations}
 use Rattle.iff.specs.declared.File.the-variants.{Rows}
 use Rattle.tables.proofs.First.{found}
 use Rattle.quick_lines.specs.Pictures.{Pictured}
-use Rattle.quick_records.proofs.FieldLaws.{nothing, there, passed-told}
-use Rattle.quick_records.proofs.passed.Statement.{statement}
-use Rattle.quick_records.proofs.passed.Tie as tie
+use Rattle.quick_words.proofs.FieldLaws.{nothing, there, passed-told}
+use Rattle.quick_stops.proofs.passed.Statement.{statement}
+use Rattle.quick_stops.proofs.passed.Tie as tie
 
 part-line-end : tie.Need-part-line-end
 part-line-end c =

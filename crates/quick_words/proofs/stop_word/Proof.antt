@@ -3,9 +3,9 @@ use mathlib.Core.Path.{ap, sym, _∙_}
 use borrow.Author.Needs.{needs}
 use borrow.Author.Tests.{eq-eqb, ne-eqb}
 use Rattle.iff.specs.Values.{stopOf}
-use Rattle.quick_records.proofs.FieldLaws.{first-stop, last-stop, that-stop}
-use Rattle.quick_records.proofs.stop_word.Statement.{statement}
-use Rattle.quick_records.proofs.stop_word.Tie as tie
+use Rattle.quick_words.proofs.FieldLaws.{first-stop, last-stop, that-stop}
+use Rattle.quick_words.proofs.stop_word.Statement.{statement}
+use Rattle.quick_words.proofs.stop_word.Tie as tie
 
 pub stop-word-spec : {M : Type 1} → statement M
 stop-word-spec =

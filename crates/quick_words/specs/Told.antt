@@ -19,7 +19,7 @@ use Rattle.iff_rules.specs.References.{metInBlock}
 use Rattle.records.specs.Layouts.{legible}
 use Rattle.keys.specs.Lookup.{keysAmong}
 use Rattle.quick_lines.specs.Pictures.{columnsAt, lineHere, Pictured}
-use Rattle.quick_records.specs.declared.Words.{Words}
+use Rattle.quick_words.specs.declared.Words.{Words}
 
 -- by its fields, in a block of n stops: it looks like its picture, its codes are not blank, and its words and some more are kept
 pub record Told (t : List ℕ) (at : ℕ) (fs : List Field) (n : ℕ) (more : List ℕ) (r : Words) : Type 0 where

@@ -20,7 +20,7 @@ use Rattle.tables.proofs.First.{found}
 use Rattle.keys.specs.Lookup.{keysAmong, HitRow}
 use Rattle.keys.proofs.Among.{key-named}
 use Rattle.quick_lines.specs.Pictures.{Pictured}
-use Rattle.quick_records.specs.Told.{Told}
+use Rattle.quick_words.specs.Told.{Told}
 
 -- nothing is told by a width of 0
 pub nothing : {A : Type 0} (w : ℕ) → w ≡ 0 → 0 < w → A

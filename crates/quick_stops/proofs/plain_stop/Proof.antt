@@ -1,19 +1,19 @@
--- `quick_records::interval` meets its contract: the law of its fields, and what it names was found. Assumes nothing.
+-- `quick_stops::plain_stop` meets its contract: the law of its fields, and what it names was found. Assumes nothing.
 use Prim.Native.Nat.{_<_}
 use mathlib.Core.Path.{refl, ap, sym, _∙_}
 use native.Mathlib.Omega.{arith}
 use borrow.Author.Needs.{needs}
 use borrow.Author.Tests.{not-false}
 use Rattle.iff.specs.Columns.{pictureFrom}
-use Rattle.iff.specs.Times.{interval}
+use Rattle.iff.specs.Times.{isTime}
 use Rattle.iff.specs.declared.RowFile.the-variants.{Stations}
 use Rattle.iff.specs.declared.File.the-variants.{Rows}
 use Rattle.iff_rules.specs.Meaning.{mostStops}
 use Rattle.tables.proofs.First.{found}
 use Rattle.quick_lines.specs.Pictures.{Pictured}
-use Rattle.quick_records.proofs.FieldLaws.{nothing, there, in-time, interval-told}
-use Rattle.quick_records.proofs.interval.Statement.{statement}
-use Rattle.quick_records.proofs.interval.Tie as tie
+use Rattle.quick_words.proofs.FieldLaws.{nothing, there, in-time, stop-told}
+use Rattle.quick_stops.proofs.plain_stop.Statement.{statement}
+use Rattle.quick_stops.proofs.plain_stop.Tie as tie
 
 part-line-end : tie.Need-part-line-end
 part-line-end c =
@@ -26,8 +26,7 @@ unfolding pictureFrom
 returns-6 c h =
     let hit = c .before .before in
     let time = hit .before in
-    let other = time .before .before .before in
-    let number = other .before .before in
+    let number = time .before .before .before in
     let code = number .before .before in
     let blank = code .before .before in
     let seen = blank .before .before .before .before in
@@ -35,15 +34,15 @@ returns-6 c h =
     let few : a .stops < mostStops = omega (arith, time .before .before .if3 .left) in
     record {
       told =
-          interval-told (a .text .now) (a .at) _ (a .n) refl (seen .before .looks .ensures (not-false _ (seen .if1 .left)))
+          stop-told (a .text .now) (a .at) _ (a .n) refl (seen .before .looks .ensures (not-false _ (seen .if1 .left)))
           (sym (blank .before .all-blank .ensures) ∙ blank .if2 .left)
-          _ _ _ (code .code .ensures) (number .number .ensures) (other .number2 .ensures);
-      timed = in-time (a .stops) _ (interval (number .number .result) (other .number2 .result)) few (time .before .is-interval .ensures) (not-false _ (time .if4 .left));
+          _ _ (code .code .ensures) (number .number .ensures);
+      timed = in-time (a .stops) _ (isTime (number .number .result)) few (time .before .is-time .ensures) (not-false _ (time .if4 .left));
       met = there (Rows Stations) (a .used) (a .stations .now) (code .code .result) _ (hit .found-by-place .ensures) (ap found (c .enum-told .given .1));
     }
 
-pub interval-spec : {M : Type 1} → statement M
-interval-spec =
+pub plain-stop-spec : {M : Type 1} → statement M
+plain-stop-spec =
     tie.close
     (tie.spec
     (λ c. search needs)
@@ -60,10 +59,6 @@ interval-spec =
     (λ c κs. search needs)
     (λ c κs. search needs)
     (λ c h. nothing _ (c .untold2 .ensures) h)
-    (λ c. search needs)
-    (λ c. search needs)
-    (λ c. search needs)
-    (λ c κs. search needs)
     (λ c. search needs)
     (λ c. search needs)
     (λ c. search needs)
