@@ -3,9 +3,9 @@ use Prim.Native.Nat.{_-_}
 use mathlib.Core.Path.{refl, _∙_}
 use native.Mathlib.Omega.{arith}
 use borrow.Author.Needs.{needs}
-use Rattle.reports.proofs.TextLaws.{Putting, put-none, put-next, put-all}
-use Rattle.reports.proofs.put_bytes.Statement.{statement}
-use Rattle.reports.proofs.put_bytes.Tie as tie
+use Rattle.text_puts.proofs.TextLaws.{Putting, put-none, put-next, put-all}
+use Rattle.text_puts.proofs.put_bytes.Statement.{statement}
+use Rattle.text_puts.proofs.put_bytes.Tie as tie
 
 abbrev Inv-loop : tie.InvT-loop
 Inv-loop out₀ at text n to₀ i₀ out to i = Putting out₀ at text n out to i

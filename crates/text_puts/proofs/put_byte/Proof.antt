@@ -1,8 +1,8 @@
 -- `put_byte` meets its contract. Assumes nothing.
 use borrow.Author.Needs.{needs}
-use Rattle.reports.proofs.TextLaws.{byte-put, no-room}
-use Rattle.reports.proofs.put_byte.Statement.{statement}
-use Rattle.reports.proofs.put_byte.Tie as tie
+use Rattle.text_puts.proofs.TextLaws.{byte-put, no-room}
+use Rattle.text_puts.proofs.put_byte.Statement.{statement}
+use Rattle.text_puts.proofs.put_byte.Tie as tie
 
 returns : tie.Need-returns
 returns c = byte-put _ _ _ (search needs)

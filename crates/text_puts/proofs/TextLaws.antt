@@ -9,7 +9,7 @@ use borrow.Author.Tests.{lt-ltb, le-ltb}
 use lib.Dec.{ltb}
 use lib.ListN.{length, getD, take, drop, set, length-set}
 use lib.Seq.{take-all, take-suc, take-nil, length-take-le}
-use Rattle.reports.specs.Texts.{Appended, Front, lastDigit, digits}
+use Rattle.text_puts.specs.Texts.{Appended, Front, lastDigit, digits}
 
 -- what is cut off does not come back
 cut-front : (n : ℕ) (a b : List ℕ) → take n (take n a ++ b) ≡ take n (a ++ b)

@@ -1,8 +1,8 @@
 -- `put_path` meets its contract. Assumes nothing.
-use Rattle.reports.proofs.TextLaws.{then, at-front}
+use Rattle.text_puts.proofs.TextLaws.{then, at-front}
 use borrow.Author.Needs.{needs}
-use Rattle.reports.proofs.put_path.Statement.{statement}
-use Rattle.reports.proofs.put_path.Tie as tie
+use Rattle.name_puts.proofs.put_path.Statement.{statement}
+use Rattle.name_puts.proofs.put_path.Tie as tie
 
 returns : tie.Need-returns
 returns c =

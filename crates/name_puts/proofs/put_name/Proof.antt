@@ -1,8 +1,8 @@
 -- `put_name` meets its contract: the kind is known. Assumes nothing.
 use borrow.Author.Needs.{needs}
 use Rattle.iff.specs.Bytes.{bytes}
-use Rattle.reports.proofs.put_name.Statement.{statement}
-use Rattle.reports.proofs.put_name.Tie as tie
+use Rattle.name_puts.proofs.put_name.Statement.{statement}
+use Rattle.name_puts.proofs.put_name.Tie as tie
 
 returns : tie.Need-returns
 unfolding bytes

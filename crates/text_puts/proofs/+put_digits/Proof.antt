@@ -5,14 +5,14 @@ use mathlib.Core.Path.{_∙_}
 use native.Mathlib.Omega.{arith}
 use borrow.Fn.Kinds.{In}
 use borrow.Fn.PlainCycle.{Measures, is, falls, and}
-use Rattle.reports.proofs.TextLaws.{only-digit, small-number, more-digits}
-use Rattle.reports.proofs.put_digits.Reads as put-digits
-use Rattle.reports.proofs.put_digits.Kinds as put-digits-kinds
-use Rattle.reports.proofs.+put_digits.Lts-put_digits as put-digits-lts
-use Rattle.reports.proofs.last_digit.Reads as last-digit-reads
-use Rattle.reports.proofs.put_byte.Reads as put-byte-reads
-use Rattle.reports.proofs.+put_digits.{statement}
-use Rattle.reports.proofs.+put_digits.Tie.{close}
+use Rattle.text_puts.proofs.TextLaws.{only-digit, small-number, more-digits}
+use Rattle.text_puts.proofs.put_digits.Reads as put-digits
+use Rattle.text_puts.proofs.put_digits.Kinds as put-digits-kinds
+use Rattle.text_puts.proofs.+put_digits.Lts-put_digits as put-digits-lts
+use Rattle.text_puts.proofs.last_digit.Reads as last-digit-reads
+use Rattle.text_puts.proofs.put_byte.Reads as put-byte-reads
+use Rattle.text_puts.proofs.+put_digits.{statement}
+use Rattle.text_puts.proofs.+put_digits.Tie.{close}
 
 abbrev μ-put-digits : Measures 1 put-digits-kinds.ps ℕ
 μ-put-digits κs a = a .1 .1 .1 .0

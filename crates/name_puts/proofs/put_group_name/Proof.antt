@@ -1,8 +1,8 @@
--- `put_row_name` meets its contract: in each arm the file is known, and its name is put. Assumes nothing.
+-- `put_group_name` meets its contract: in each arm the file is known, and its name is put. Assumes nothing.
 use borrow.Author.Needs.{needs}
 use Rattle.iff.specs.Bytes.{bytes}
-use Rattle.reports.proofs.put_row_name.Statement.{statement}
-use Rattle.reports.proofs.put_row_name.Tie as tie
+use Rattle.name_puts.proofs.put_group_name.Statement.{statement}
+use Rattle.name_puts.proofs.put_group_name.Tie as tie
 
 returns : tie.Need-returns
 unfolding bytes
@@ -28,10 +28,19 @@ returns-4 c =
     let told = c .before .before in
     rw (told .before .before .before .enum-told4 .given .1) (told .put-bytes4 .ensures)
 
-pub put-row-name-spec : {M : Type 1} → statement M
-put-row-name-spec =
+returns-5 : tie.Need-returns-5
+unfolding bytes
+returns-5 c =
+    let told = c .before .before in
+    rw (told .before .before .before .enum-told5 .given .1) (told .put-bytes5 .ensures)
+
+pub put-group-name-spec : {M : Type 1} → statement M
+put-group-name-spec =
     tie.close
     (tie.spec
+    (λ c. search needs)
+    (λ c. search needs)
+    (λ c κs. search needs)
     (λ c. search needs)
     (λ c. search needs)
     (λ c κs. search needs)
@@ -51,4 +60,6 @@ put-row-name-spec =
     (λ c. search needs)
     returns-3
     (λ c. search needs)
-    returns-4)
+    returns-4
+    (λ c. search needs)
+    returns-5)
