@@ -1,4 +1,4 @@
--- `parts::lines_part` meets its contract: where the service's first line was found, and where the next block begins. Assumes nothing.
+-- `service_lines::lines_part` meets its contract: where the service's first line was found, and where the next block begins. Assumes nothing.
 use Prim.Native.Nat.{_+_, _≤_}
 use mathlib.Core.Path.{_≡_, sym, ap, _∙_}
 use native.Mathlib.Omega.{arith}
@@ -8,11 +8,11 @@ use Rattle.iff.specs.Lines.{lines, isHash}
 use Rattle.iff.specs.declared.Test.the-variants.{Passes}
 use Rattle.iff_desk.specs.Parts.{seek, seekAfter}
 use Rattle.iff_desk.specs.declared.Offset.the-variants.{From}
-use Rattle.parts.specs.Bounds.{endAt, linesFrom, linesPart}
+use Rattle.service_lines.specs.Bounds.{endAt, linesFrom, linesPart}
 use Rattle.parts.specs.declared.Part.{Part}
 use Rattle.parts.proofs.SeekLaws.{wants-head, wants-hash}
-use Rattle.parts.proofs.lines_part.Statement.{statement}
-use Rattle.parts.proofs.lines_part.Tie as tie
+use Rattle.service_lines.proofs.lines_part.Statement.{statement}
+use Rattle.service_lines.proofs.lines_part.Tie as tie
 
 -- where the text has it
 head-in : (c : tie.After-i) → c .i .given .0 .0 + 9 ≤ length (c .before .before .before .before .args .text .now)

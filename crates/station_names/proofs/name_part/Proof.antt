@@ -1,4 +1,4 @@
--- `parts::name_part` meets its contract: the row that is found lies in the file. Assumes nothing.
+-- `station_names::name_part` meets its contract: the row that is found lies in the file. Assumes nothing.
 use Prim.Native.Nat.{_+_, _≤_}
 use mathlib.Core.Path.{_≡_, sym, ap, _∙_}
 use native.Mathlib.Omega.{arith}
@@ -6,10 +6,10 @@ use borrow.Author.Needs.{needs}
 use lib.ListN.{length}
 use Rattle.iff.specs.Lines.{lines}
 use Rattle.iff_desk.specs.Parts.{seekAfter}
-use Rattle.parts.specs.Bounds.{nameFrom, namePart}
+use Rattle.station_names.specs.Names.{nameFrom, namePart}
 use Rattle.parts.proofs.SeekLaws.{wants-station}
-use Rattle.parts.proofs.name_part.Statement.{statement}
-use Rattle.parts.proofs.name_part.Tie as tie
+use Rattle.station_names.proofs.name_part.Statement.{statement}
+use Rattle.station_names.proofs.name_part.Tie as tie
 
 inside : (c : tie.After-i) → c .i .given .0 .0 + 73 ≤ length (c .before .before .before .before .args .stations .now)
 inside c = (rw (c .i .given .1) at (c .before .before .seek-after .ensures .within)) .1

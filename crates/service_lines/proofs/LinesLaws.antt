@@ -1,4 +1,4 @@
--- Laws of the parts. Assumes nothing.
+-- Laws of a service's lines now, and of one whole block. Assumes nothing.
 use Prim.Native.Nat.{ℕ, _+_, _-_, _≤_}
 use mathlib.Core.Path.{_≡_, refl, ap, sym, _∙_}
 use mathlib.Core.List.{List, [], _∷_}
@@ -12,34 +12,16 @@ use Rattle.iff.specs.Bytes.{hash, at}
 use Rattle.iff.specs.Lists.{all}
 use Rattle.iff.specs.Lines.{Line, lines, isHash}
 use Rattle.iff_desk.specs.Parts.{seekAfter, isHead, inner, isOneBlock, found}
-use Rattle.iff_desk.specs.Parts.{nameAt, columns44To73, name, nameTest, headAt, upTo, serviceLines, linesNow, linesNowTest}
-use Rattle.iff.specs.declared.Reason.the-variants.{NoService, NoStation}
+use Rattle.iff_desk.specs.Parts.{headAt, upTo, serviceLines, linesNow, linesNowTest}
+use Rattle.iff.specs.declared.Reason.the-variants.{NoService}
 use Rattle.iff.specs.declared.Test.the-variants.{Passes, Fails}
 use Rattle.iff_desk.specs.declared.Offset.{Offset}
 use Rattle.iff_desk.specs.declared.Offset.the-variants.{From, NotFound}
 use Rattle.text.specs.declared.LineSpan.{LineSpan}
 use Rattle.text.specs.Spans.{spanLine, LineAt}
 use Rattle.text.proofs.LineLaws.{lines-end}
-use Rattle.parts.specs.Wants.{follows}
-use Rattle.parts.specs.Bounds.{partOf, nameFrom, namePart, endAt, linesFrom, linesPart, textNow, partNow}
-
--- A NAME by its bounds
-module _ (t : List ℕ) (short : ℕ) where
-  pub name-holds : partOf t (namePart t short .from) (namePart t short .to) ≡ name t short
-  unfolding namePart name
-  name-holds = go (nameAt t short)
-    where
-      go : (o : Offset) → partOf t (nameFrom o .from) (nameFrom o .to) ≡ columns44To73 t o
-      go (From i) = let k : i + 73 - (i + 43) ≡ 30 = omega arith in rw k
-      go NotFound = refl
-
-  pub name-tested : namePart t short .test ≡ nameTest t short
-  unfolding namePart nameTest
-  name-tested = go (nameAt t short)
-    where
-      go : (o : Offset) → nameFrom o .test ≡ found o (Fails NoStation)
-      go (From i) = refl
-      go NotFound = refl
+use Rattle.parts.specs.Bounds.{partOf}
+use Rattle.service_lines.specs.Bounds.{follows, endAt, linesFrom, linesPart, textNow, partNow}
 
 -- all lines pass two tests where they pass both at once
 and-four : (a b c d : Bool) → ((a && b) && (c && d)) ≡ ((a && c) && (b && d))

@@ -1,12 +1,12 @@
--- `parts::all_follow` meets its contract: what is left to ask is the whole. Assumes nothing.
+-- `service_lines::all_follow` meets its contract: what is left to ask is the whole. Assumes nothing.
 use Prim.Native.Nat.{_-_}
 use mathlib.Core.Path.{_≡_, sym, _∙_}
 use borrow.Author.Needs.{needs}
 use borrow.Author.Tests.{eq-eqb, ne-eqb, not-true, not-false}
 use lib.ListN.{length}
-use Rattle.parts.proofs.PartLaws.{Following, following-first, following-not, following-next, following-all, not-ended, is-hash, is-at, is-inner}
-use Rattle.parts.proofs.all_follow.Statement.{statement}
-use Rattle.parts.proofs.all_follow.Tie as tie
+use Rattle.service_lines.proofs.LinesLaws.{Following, following-first, following-not, following-next, following-all, not-ended, is-hash, is-at, is-inner}
+use Rattle.service_lines.proofs.all_follow.Statement.{statement}
+use Rattle.service_lines.proofs.all_follow.Tie as tie
 
 abbrev Inv-loop : tie.InvT-loop
 Inv-loop block from at₀ at = Following block from at

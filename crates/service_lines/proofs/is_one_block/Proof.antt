@@ -1,10 +1,10 @@
--- `parts::is_one_block` meets its contract: its first line, then those that follow. Assumes nothing.
+-- `service_lines::is_one_block` meets its contract: its first line, then those that follow. Assumes nothing.
 use mathlib.Core.Path.{_≡_, sym, _∙_}
 use borrow.Author.Needs.{needs}
 use borrow.Author.Tests.{not-true, not-false}
-use Rattle.parts.proofs.PartLaws.{block-none, block-unended, block-other, block-rest}
-use Rattle.parts.proofs.is_one_block.Statement.{statement}
-use Rattle.parts.proofs.is_one_block.Tie as tie
+use Rattle.service_lines.proofs.LinesLaws.{block-none, block-unended, block-other, block-rest}
+use Rattle.service_lines.proofs.is_one_block.Statement.{statement}
+use Rattle.service_lines.proofs.is_one_block.Tie as tie
 
 returns : tie.Need-returns
 returns c = block-none _ _ (c .if1 .taken)

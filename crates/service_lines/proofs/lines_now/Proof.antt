@@ -1,9 +1,9 @@
--- `parts::lines_now` meets its contract: the block, or the part of the text between its bounds. Assumes nothing.
+-- `service_lines::lines_now` meets its contract: the block, or the part of the text between its bounds. Assumes nothing.
 use mathlib.Core.Path.{_≡_, sym, _∙_}
 use borrow.Author.Needs.{needs}
-use Rattle.parts.proofs.PartLaws.{now-block, now-text}
-use Rattle.parts.proofs.lines_now.Statement.{statement}
-use Rattle.parts.proofs.lines_now.Tie as tie
+use Rattle.service_lines.proofs.LinesLaws.{now-block, now-text}
+use Rattle.service_lines.proofs.lines_now.Statement.{statement}
+use Rattle.service_lines.proofs.lines_now.Tie as tie
 
 returns : tie.Need-returns
 returns c = now-block _ _ _ (sym (c .before .is-one-block .ensures) ∙ c .if1 .taken)

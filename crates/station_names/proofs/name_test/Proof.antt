@@ -1,9 +1,9 @@
--- `parts::name_test` meets its contract. Assumes nothing.
+-- `station_names::name_test` meets its contract. Assumes nothing.
 use mathlib.Core.Path.{_≡_}
 use borrow.Author.Needs.{needs}
-use Rattle.parts.proofs.PartLaws.{name-tested}
-use Rattle.parts.proofs.name_test.Statement.{statement}
-use Rattle.parts.proofs.name_test.Tie as tie
+use Rattle.station_names.proofs.NameLaws.{name-tested}
+use Rattle.station_names.proofs.name_test.Statement.{statement}
+use Rattle.station_names.proofs.name_test.Tie as tie
 
 returns : tie.Need-returns
 returns c =

@@ -1,9 +1,9 @@
--- `parts::name` meets its contract: the part between its bounds. Assumes nothing.
+-- `station_names::name` meets its contract: the part between its bounds. Assumes nothing.
 use mathlib.Core.Path.{_≡_}
 use borrow.Author.Needs.{needs}
-use Rattle.parts.proofs.PartLaws.{name-holds}
-use Rattle.parts.proofs.name.Statement.{statement}
-use Rattle.parts.proofs.name.Tie as tie
+use Rattle.station_names.proofs.NameLaws.{name-holds}
+use Rattle.station_names.proofs.name.Statement.{statement}
+use Rattle.station_names.proofs.name.Tie as tie
 
 returns : tie.Need-returns
 returns c =

@@ -1,9 +1,9 @@
--- `parts::lines_now_test` meets its contract. Assumes nothing.
+-- `service_lines::lines_now_test` meets its contract. Assumes nothing.
 use mathlib.Core.Path.{_≡_, sym, _∙_}
 use borrow.Author.Needs.{needs}
-use Rattle.parts.proofs.PartLaws.{test-block, test-text}
-use Rattle.parts.proofs.lines_now_test.Statement.{statement}
-use Rattle.parts.proofs.lines_now_test.Tie as tie
+use Rattle.service_lines.proofs.LinesLaws.{test-block, test-text}
+use Rattle.service_lines.proofs.lines_now_test.Statement.{statement}
+use Rattle.service_lines.proofs.lines_now_test.Tie as tie
 
 returns : tie.Need-returns
 returns c = test-block _ _ _ (sym (c .before .is-one-block .ensures) ∙ c .if1 .taken)
