@@ -1,9 +1,9 @@
--- `block_puts::after_block` meets its contract. Assumes nothing.
+-- `new_services::after_block` meets its contract. Assumes nothing.
 use mathlib.Core.Path.{ap, _∙_}
 use borrow.Author.Needs.{needs}
 use Rattle.fresh_keys.specs.Runs.{stepRun}
-use Rattle.block_puts.proofs.after_block.Statement.{statement}
-use Rattle.block_puts.proofs.after_block.Tie as tie
+use Rattle.new_services.proofs.after_block.Statement.{statement}
+use Rattle.new_services.proofs.after_block.Tie as tie
 
 returns : tie.Need-returns
 returns c form =

@@ -1,9 +1,9 @@
--- `block_puts::tell_new` meets its contract: what lacks a mark is new, and what is searched for is told. Assumes nothing.
+-- `new_services::tell_new` meets its contract: what lacks a mark is new, and what is searched for is told. Assumes nothing.
 use mathlib.Core.Path.{refl, ap, sym, _∙_}
 use mathlib.Core.Bool.{not, false≢true, true≢false}
 use borrow.Author.Needs.{needs}
-use Rattle.block_puts.proofs.tell_new.Statement.{statement}
-use Rattle.block_puts.proofs.tell_new.Tie as tie
+use Rattle.new_services.proofs.tell_new.Statement.{statement}
+use Rattle.new_services.proofs.tell_new.Tie as tie
 
 returns : tie.Need-returns
 returns c =

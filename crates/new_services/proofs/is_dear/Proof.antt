@@ -1,9 +1,9 @@
--- `block_puts::is_dear` meets its contract. Assumes nothing.
+-- `new_services::is_dear` meets its contract. Assumes nothing.
 use mathlib.Core.Path.{sym, _∙_}
 use mathlib.Core.Bool.{true≢false}
 use borrow.Author.Needs.{needs}
-use Rattle.block_puts.proofs.is_dear.Statement.{statement}
-use Rattle.block_puts.proofs.is_dear.Tie as tie
+use Rattle.new_services.proofs.is_dear.Statement.{statement}
+use Rattle.new_services.proofs.is_dear.Tie as tie
 
 -- no search was asked for
 returns-3 : tie.Need-returns-3
