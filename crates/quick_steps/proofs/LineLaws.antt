@@ -30,8 +30,8 @@ use Rattle.references.specs.Agree.{BlockKeysAmong}
 use Rattle.blocks.specs.Lines.{keysFrom, recordTest, blockStep}
 use Rattle.blocks.proofs.StepLaws.{keys-agree, row-passes, let-through}
 use Rattle.quick_lines.specs.Pictures.{columnsAt, lineHere}
-use Rattle.quick_records.specs.declared.Words.{Words}
-use Rattle.quick_records.specs.Told.{Seen}
+use Rattle.quick_words.specs.declared.Words.{Words}
+use Rattle.quick_words.specs.Told.{Seen}
 use Rattle.quick_steps.specs.declared.LinePut.{LinePut}
 use Rattle.quick_steps.specs.declared.LinePut.the-variants.{Next, Unsure}
 use Rattle.quick_steps.specs.Steps.{w, Passing, WordsPut, Stepped, LineTurn}
