@@ -37,9 +37,9 @@ use Rattle.reading.specs.Reading.{Ready, FileRead, DeliveryRead, headLine}
 use Rattle.block_walks.specs.Blocks.{Counted}
 use Rattle.iff_laws.specs.Outcomes.{Loaded}
 use Rattle.iff_laws.specs.ScanLaws.{or-fine, cons-fine, or-nothing}
-use Rattle.first_files.specs.Firsts.{Seven, seven, FirstsRead}
+use Rattle.first_files.specs.Firsts.{Seven, seven, FirstsReady, FirstsRead}
 use Rattle.first_files.specs.declared.FirstFiles.{FirstFiles}
-use Rattle.last_files.specs.Lasts.{Four, four, LastsRead}
+use Rattle.last_files.specs.Lasts.{Four, four, LastsReady, LastsRead}
 use Rattle.last_files.specs.declared.LastFiles.{LastFiles}
 use Rattle.sizes.specs.Sizes.{sizesVerdict, lengthsWithin, absencesVerdict, lengthsOf}
 use Rattle.sizes.proofs.SizeLaws.{step, last}
@@ -96,7 +96,7 @@ roomy F R v e g f =
     room-fits f _ _ (each-fine (λ k. roomVerdict k (length (lines (of F k))) (of R k)) (or-fine sized _ (sym e ∙ fine-is v g) .1) f)
 
 -- a cleared table is ready for its file
-pub ready : (f : File) (text t z : List ℕ) → z ≡ replicate (length t) 0 → length (lines text) ≤ room f (length t) → Ready f text z
+ready : (f : File) (text t z : List ℕ) → z ≡ replicate (length t) 0 → length (lines text) ≤ room f (length t) → Ready f text z
 ready f text t z e h =
     let n : length z ≡ length t = rw (e, length-replicate) in
     record { cleared = e ∙ rw n; room = rw n h }
@@ -204,6 +204,36 @@ firstsOf v = seven (v .delivery) (v .company) (v .country) (v .trnsmode) (v .tim
 
 abbrev lastsOf : PerFile (List ℕ) → Four (List ℕ)
 lastsOf v = four (v .timetbls) (v .changes) (v .xfootnote) (v .xchanges)
+
+-- BEFORE THEY ARE READ: where every file has room and the tables are cleared, each table is ready for its file
+module _ (F t z : PerFile (List ℕ)) (fits : Fit F (perFile (λ f. length (of t f))))
+    (c : Cleared (t .delivery) (t .company) (t .country) (t .trnsmode) (t .timezone) (t .stations)
+    (t .footnote) (t .timetbls) (t .changes) (t .xfootnote) (t .xchanges)
+    (z .delivery) (z .company) (z .country) (z .trnsmode) (z .timezone) (z .stations)
+    (z .footnote) (z .timetbls) (z .changes) (z .xfootnote) (z .xchanges)) where
+  ready-at : (f : File) → of z f ≡ replicate (length (of t f)) 0 → Ready f (of F f) (of z f)
+  ready-at f e = ready f (of F f) (of t f) (of z f) e (rw (← (of-each (λ g. length (of t g)) f)) (fits f))
+
+  pub firsts-ready : FirstsReady (firstsOf F) (firstsOf z)
+  firsts-ready =
+      record {
+        delivery = ready-at Delivery (c .c1);
+        company = ready-at (Rows Company) (c .c2);
+        country = ready-at (Rows Country) (c .c3);
+        trnsmode = ready-at (Rows Trnsmode) (c .c4);
+        timezone = ready-at (Groups Timezone) (c .c5);
+        stations = ready-at (Rows Stations) (c .c6);
+        footnote = ready-at (Groups Footnote) (c .c7);
+      }
+
+  pub lasts-ready : LastsReady (lastsOf F) (lastsOf z)
+  lasts-ready =
+      record {
+        timetbls = ready-at Timetbls (c .c8);
+        changes = ready-at (Groups Changes) (c .c9);
+        xfootnote = ready-at (Groups Xfootnote) (c .c10);
+        xchanges = ready-at (Groups Xchanges) (c .c11);
+      }
 
 -- no fault after the first, so none before them
 pub firsts-back : {header : List ℕ} {F : Seven (List ℕ)} {v : Verdict} {z a : Seven (List ℕ)} {r : FirstFiles} → FirstsRead header F v z a r

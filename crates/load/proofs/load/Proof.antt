@@ -1,17 +1,12 @@
 -- `load` meets its contract: what each call tells is handed to the law of the whole. Assumes nothing.
-use Prim.Native.Nat.{ℕ, _≤_}
-use mathlib.Core.Path.{_≡_, refl, _∙_}
+use Prim.Native.Nat.{ℕ}
+use mathlib.Core.Path.{_≡_, _∙_}
 use mathlib.Core.Bool.{true}
 use mathlib.Core.List.{List}
-use lib.ListN.{length, replicate}
+use lib.ListN.{length}
 use Rattle.iff.specs.Files.{PerFile, of, perFile, eleven}
 use Rattle.iff.specs.Refusals.{fine}
-use Rattle.iff.specs.declared.File.{File}
-use Rattle.iff.specs.declared.RowFile.the-variants.{Company, Country, Trnsmode, Stations}
-use Rattle.iff.specs.declared.GroupFile.the-variants.{Timezone, Footnote, Changes, Xfootnote, Xchanges}
-use Rattle.iff.specs.declared.File.the-variants.{Delivery, Rows, Groups, Timetbls}
-use Rattle.reading.specs.Reading.{Ready}
-use Rattle.load_laws.proofs.LoadLaw.{Fit, roomy, ready, firsts-back, loaded}
+use Rattle.load_laws.proofs.LoadLaw.{Fit, roomy, firsts-ready, lasts-ready, firsts-back, loaded}
 use borrow.Author.Needs.{needs}
 use Rattle.load.proofs.load.Statement.{statement}
 use Rattle.load.proofs.load.Tie as tie
@@ -94,42 +89,22 @@ Fits s = Fit (files s) (rooms s)
 abbrev start-cleared : tie.After-clear-all → tie.Start
 start-cleared c = start-of-sizes (sizes-of-cleared c)
 
-ready-for : (c : tie.After-clear-all) → fine (sizes-of-cleared c .sizes .result) ≡ true → (f : File) (z : List ℕ)
-    → z ≡ replicate (length (of (lent (start-cleared c)) f)) 0
-    → length (of (lent (start-cleared c)) f) ≡ of (rooms (start-cleared c)) f
-    → Ready f (of (files (start-cleared c)) f) z
-ready-for c g f z e k =
-    let s = start-cleared c in
-    ready f (of (files s) f) (of (lent s) f) z e (rw k (roomy (files s) (rooms s) _ (sizes-of-cleared c .sizes .ensures) g f))
+fit : (c : tie.After-clear-all) → fine (sizes-of-cleared c .sizes .result) ≡ true → Fits (start-cleared c)
+fit c g = roomy (files (start-cleared c)) (rooms (start-cleared c)) _ (sizes-of-cleared c .sizes .ensures) g
 
 read-first-files-requires : tie.Need-read-first-files-requires
 read-first-files-requires c κs =
     let d = cleared-of-head (c .before .before .before .before .before .before .before) in
-    let e = d .clear-all .ensures in
-    λ g.
-    record {
-      delivery = ready-for d g Delivery _ (e .c1) refl;
-      company = ready-for d g (Rows Company) _ (e .c2) refl;
-      country = ready-for d g (Rows Country) _ (e .c3) refl;
-      trnsmode = ready-for d g (Rows Trnsmode) _ (e .c4) refl;
-      timezone = ready-for d g (Groups Timezone) _ (e .c5) refl;
-      stations = ready-for d g (Rows Stations) _ (e .c6) refl;
-      footnote = ready-for d g (Groups Footnote) _ (e .c7) refl;
-    }
+    λ g. firsts-ready (files (start-cleared d)) (lent (start-cleared d)) (eleven _ _ _ _ _ _ _ _ _ _ _) (fit d g) (d .clear-all .ensures)
 
 read-last-files-requires : tie.Need-read-last-files-requires
 read-last-files-requires c κs =
     let f = c .before .before .before .before .before .before .before .before .before .before .before .before .before .before .before .before .before .before .before .before .before .before .before in
     let d = cleared-of-head (head-of-first f) in
-    let e = d .clear-all .ensures in
     λ g.
-    let h = firsts-back (f .read-first-files .ensures) g in
-    record {
-      timetbls = ready-for d h Timetbls _ (e .c8) refl;
-      changes = ready-for d h (Groups Changes) _ (e .c9) refl;
-      xfootnote = ready-for d h (Groups Xfootnote) _ (e .c10) refl;
-      xchanges = ready-for d h (Groups Xchanges) _ (e .c11) refl;
-    }
+    lasts-ready (files (start-cleared d)) (lent (start-cleared d)) (eleven _ _ _ _ _ _ _ _ _ _ _)
+    (fit d (firsts-back (f .read-first-files .ensures) g))
+    (d .clear-all .ensures)
 
 -- THE TABLES KEEP THEIR LENGTHS
 same-length : tie.Need-same-length
