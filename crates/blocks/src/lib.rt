@@ -105,7 +105,7 @@ fn record_test(
 {
     let kind = records::block_record(letter);
     let mut row = [0u64; tables::BLOCK_WIDTH];
-    match records::read_line(kind, letter as u64, form, line, ended, &mut row) {
+    match record_lines::read_line(kind, letter as u64, form, line, ended, &mut row) {
         iff::Test::Fails(why) => iff::Test::Fails(why),
         iff::Test::Passes => {
             row_test(

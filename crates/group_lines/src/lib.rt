@@ -79,7 +79,7 @@ fn make_row(
         Test::Passes => {
             let kind = records::group_record(file, letter);
             let tag = first_bytes::group_tag(file, letter);
-            records::read_line(kind, tag, form, line, ended, row)
+            record_lines::read_line(kind, tag, form, line, ended, row)
         }
     }
 }
