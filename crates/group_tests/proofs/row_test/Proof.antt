@@ -1,9 +1,9 @@
--- `group_lines::row_test` meets its contract. The three tests of a row, in their order. Assumes nothing.
+-- `group_tests::row_test` meets its contract. The three tests of a row, in their order. Assumes nothing.
 use borrow.Author.Tests.{not-true, not-false}
 use borrow.Author.Needs.{needs}
-use Rattle.group_lines.proofs.LineLaws.{means-not, unique-not, met-not, row-passes}
-use Rattle.group_lines.proofs.row_test.Statement.{statement}
-use Rattle.group_lines.proofs.row_test.Tie as tie
+use Rattle.group_tests.proofs.LineLaws.{means-not, unique-not, met-not, row-passes}
+use Rattle.group_tests.proofs.row_test.Statement.{statement}
+use Rattle.group_tests.proofs.row_test.Tie as tie
 
 returns : tie.Need-returns
 returns c = λ k a. means-not k _ _ _ _ _ _ _ (c .before .group-means .ensures) (not-true _ (c .if1 .taken))

@@ -1,8 +1,8 @@
--- `group_lines::test_row` meets its contract. The tests of a line, then those of its row. Assumes nothing.
+-- `group_tests::test_row` meets its contract. The tests of a line, then those of its row. Assumes nothing.
 use borrow.Author.Needs.{needs}
-use Rattle.group_lines.proofs.StepLaws.{tested-no, tested}
-use Rattle.group_lines.proofs.test_row.Statement.{statement}
-use Rattle.group_lines.proofs.test_row.Tie as tie
+use Rattle.group_tests.proofs.RowLaws.{tested-no, tested}
+use Rattle.group_tests.proofs.test_row.Statement.{statement}
+use Rattle.group_tests.proofs.test_row.Tie as tie
 
 abbrev start : tie.After-make-row → tie.Start
 start c = c .before .before .before .before .before .before .before .before .before .before .before .before

@@ -33,8 +33,9 @@ use Rattle.records.specs.Layouts.{layoutTest}
 use Rattle.records.specs.Facts.{LineRead}
 use Rattle.records.proofs.FileLaws.{group-fields, group-put, row-tag, known-used}
 use Rattle.keys.specs.Blocks.{blockOfRows, rowsBetween}
-use Rattle.group_lines.specs.Tests.{placeTest, groupRowTest}
-use Rattle.group_lines.specs.Facts.{RowMade, openRows}
+use Rattle.group_tests.specs.Tests.{placeTest, groupRowTest}
+use Rattle.group_tests.specs.Facts.{RowMade}
+use Rattle.open_groups.specs.Open.{openRows}
 
 -- THE ROW OF A LINE
 -- a test that passes, after another

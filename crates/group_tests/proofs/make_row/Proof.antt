@@ -1,4 +1,4 @@
--- `group_lines::make_row` meets its contract. The tests of a line alone, and its row. Assumes nothing.
+-- `group_tests::make_row` meets its contract. The tests of a line alone, and its row. Assumes nothing.
 use Prim.Native.Nat.{suc, _≤_}
 use mathlib.Core.Path.{ap, _∙_}
 use native.Mathlib.Omega.{arith}
@@ -9,10 +9,10 @@ use Rattle.iff.specs.Tables.{rowWidth}
 use Rattle.iff.specs.declared.File.the-variants.{Groups}
 use Rattle.iff_rules.specs.Order.{groupTag}
 use Rattle.records.proofs.FileLaws.{group-room}
-use Rattle.group_lines.specs.Tests.{placeTest}
-use Rattle.group_lines.proofs.LineLaws.{place-fails, place-passes}
-use Rattle.group_lines.proofs.make_row.Statement.{statement}
-use Rattle.group_lines.proofs.make_row.Tie as tie
+use Rattle.group_tests.specs.Tests.{placeTest}
+use Rattle.group_tests.proofs.LineLaws.{place-fails, place-passes}
+use Rattle.group_tests.proofs.make_row.Statement.{statement}
+use Rattle.group_tests.proofs.make_row.Tie as tie
 
 abbrev start : tie.After-first-byte → tie.Start
 start c = c .before .before .before

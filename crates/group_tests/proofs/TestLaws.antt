@@ -19,7 +19,7 @@ use Rattle.iff_rules.specs.Unique.{freshKey, freshInGroup}
 use Rattle.iff_rules.specs.References.{metInGroup}
 use Rattle.iff_rules.specs.Load.{groupTest}
 use Rattle.records.specs.Layouts.{layoutTest}
-use Rattle.group_lines.specs.Tests.{placeTest, groupRowTest}
+use Rattle.group_tests.specs.Tests.{placeTest, groupRowTest}
 
 -- the tests in their order, the values in two parts
 split : (n h l v m x r : Bool)

@@ -1,8 +1,8 @@
--- `group_lines::place_test` meets its contract. The two tests of a first byte, in their order. Assumes nothing.
+-- `group_tests::place_test` meets its contract. The two tests of a first byte, in their order. Assumes nothing.
 use borrow.Author.Tests.{not-true, not-false}
 use borrow.Author.Needs.{needs}
-use Rattle.group_lines.proofs.place_test.Statement.{statement}
-use Rattle.group_lines.proofs.place_test.Tie as tie
+use Rattle.group_tests.proofs.place_test.Statement.{statement}
+use Rattle.group_tests.proofs.place_test.Tie as tie
 
 returns : tie.Need-returns
 returns c =

@@ -1,8 +1,8 @@
--- `group_lines::run_after` meets its contract. A `#` adds a key, another row none. Assumes nothing.
+-- `open_groups::run_after` meets its contract. A `#` adds a key, another row none. Assumes nothing.
 use borrow.Author.Tests.{eq-eqb, ne-eqb}
 use borrow.Author.Needs.{needs}
-use Rattle.group_lines.proofs.run_after.Statement.{statement}
-use Rattle.group_lines.proofs.run_after.Tie as tie
+use Rattle.open_groups.proofs.run_after.Statement.{statement}
+use Rattle.open_groups.proofs.run_after.Tie as tie
 
 returns : tie.Need-returns
 returns c = rw (eq-eqb _ _ (c .before .if1 .taken)) (c .next-run .ensures)

@@ -1,8 +1,8 @@
--- `group_lines::open_after` meets its contract. One line more, where that leads, and the key that it names. Assumes nothing.
+-- `open_groups::open_after` meets its contract. One line more, where that leads, and the key that it names. Assumes nothing.
 use borrow.Author.Needs.{needs}
-use Rattle.group_lines.proofs.StepLaws.{one-more}
-use Rattle.group_lines.proofs.open_after.Statement.{statement}
-use Rattle.group_lines.proofs.open_after.Tie as tie
+use Rattle.open_groups.proofs.OpenLaws.{one-more}
+use Rattle.open_groups.proofs.open_after.Statement.{statement}
+use Rattle.open_groups.proofs.open_after.Tie as tie
 
 returns : tie.Need-returns
 returns c =

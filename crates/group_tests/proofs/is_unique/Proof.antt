@@ -1,11 +1,11 @@
--- `group_lines::is_unique` meets its contract. What has no mark is new; else a `#` is asked for its key, another row for clashes. Assumes nothing.
+-- `group_tests::is_unique` meets its contract. What has no mark is new; else a `#` is asked for its key, another row for clashes. Assumes nothing.
 use native.Mathlib.Omega.{arith}
 use borrow.Author.Needs.{needs}
 use Rattle.iff.specs.declared.File.the-variants.{Groups}
 use Rattle.tables.proofs.Widths.{widths}
-use Rattle.group_lines.proofs.LineLaws.{unique-key, unique-other}
-use Rattle.group_lines.proofs.is_unique.Statement.{statement}
-use Rattle.group_lines.proofs.is_unique.Tie as tie
+use Rattle.group_tests.proofs.LineLaws.{unique-key, unique-other}
+use Rattle.group_tests.proofs.is_unique.Statement.{statement}
+use Rattle.group_tests.proofs.is_unique.Tie as tie
 
 returns : tie.Need-returns
 returns c =
