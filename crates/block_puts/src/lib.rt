@@ -183,7 +183,7 @@ fn judge_again(
     ensures { λ r. ⌜ BlockJudged form (now (block .entry)) counts
         (now (companies .entry)) (now (modes .entry)) (now (stations .entry)) (now (footnotes .entry)) (now (t .entry)) (now (t .exit)) row r ⌝ }
 {
-    let service = blocks::service_of(block);
+    let service = block_services::service_of(block);
     let came = lookups::names_among(iff::File::Timetbls, t, row, service);
     check_then_write(
         block,
@@ -261,7 +261,7 @@ fn after_block(run: fresh_keys::KeyRun, marks: &mut [u8], block: &[u8]) -> fresh
     requires { ⌜ length (now marks) ≡ slots ⌝ }
     ensures { λ r. ⌜ ((form : Form) → Remembered run (now (marks .entry)) (serviceOf form (asBlock (now (block .entry)))) (now (marks .exit)) r) ⌝ }
 {
-    let service = blocks::service_of(block);
+    let service = block_services::service_of(block);
     marks::mark(marks, service);
     fresh_keys::next_run(run, service)
 }
@@ -288,7 +288,7 @@ pub fn add_block(
     ensures { λ r. ⌜ BlockAdded form (now (block .entry)) (now (t .entry)) (now (t .exit)) (now (marks .exit)) counts
         (now (companies .entry)) (now (modes .entry)) (now (stations .entry)) (now (footnotes .entry)) row search r ⌝ }
 {
-    let service = blocks::service_of(block);
+    let service = block_services::service_of(block);
     let new = tell_new(search, run, marks, t, row, service);
     match try_block(
         block,

@@ -1,10 +1,10 @@
--- `blocks::block_line` meets its contract: each way out is one of the laws of a line. Assumes nothing.
+-- `block_lines::block_line` meets its contract: each way out is one of the laws of a line. Assumes nothing.
 use mathlib.Core.Path.{sym, _∙_}
 use borrow.Author.Needs.{needs}
 use borrow.Author.Tests.{not-true, not-false}
-use Rattle.blocks.proofs.StepLaws.{unknown, out-of-order, no-record, let-through}
-use Rattle.blocks.proofs.block_line.Statement.{statement}
-use Rattle.blocks.proofs.block_line.Tie as tie
+use Rattle.block_lines.proofs.StepLaws.{unknown, out-of-order, no-record, let-through}
+use Rattle.block_lines.proofs.block_line.Statement.{statement}
+use Rattle.block_lines.proofs.block_line.Tie as tie
 
 returns : tie.Need-returns
 returns c = unknown _ _ _ _ _ (c .before .before .first-byte .ensures) (sym (c .before .is-known-in-block .ensures) ∙ not-true _ (c .if1 .taken))

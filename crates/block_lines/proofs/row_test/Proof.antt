@@ -1,10 +1,10 @@
--- `blocks::row_test` meets its contract: each way out is one of the laws of a row. Assumes nothing.
+-- `block_lines::row_test` meets its contract: each way out is one of the laws of a row. Assumes nothing.
 use mathlib.Core.Path.{sym, _∙_}
 use borrow.Author.Needs.{needs}
 use borrow.Author.Tests.{not-true, not-false}
-use Rattle.blocks.proofs.StepLaws.{keys-agree, bad-value, not-new, not-met, row-passes}
-use Rattle.blocks.proofs.row_test.Statement.{statement}
-use Rattle.blocks.proofs.row_test.Tie as tie
+use Rattle.block_lines.proofs.StepLaws.{keys-agree, bad-value, not-new, not-met, row-passes}
+use Rattle.block_lines.proofs.row_test.Statement.{statement}
+use Rattle.block_lines.proofs.row_test.Tie as tie
 
 pub row-test-spec : {M : Type 1} → statement M
 row-test-spec =

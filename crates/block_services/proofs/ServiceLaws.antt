@@ -20,7 +20,7 @@ use Rattle.iff.specs.declared.File.the-variants.{Timetbls}
 use Rattle.iff_rules.specs.Rows.{rowOf, asBlock}
 use Rattle.iff_rules.specs.Load.{serviceOf}
 use Rattle.text.proofs.LineLaws.{after-ended, after-unended}
-use Rattle.blocks.specs.Whole.{headWord}
+use Rattle.block_services.specs.Heads.{headWord}
 
 -- some columns are no wider than they are wide
 pub part-small : (r s : List ℕ) (k from : ℕ) → k ≤ 8 → r ≡ take k (drop from s) → length r ≤ 8

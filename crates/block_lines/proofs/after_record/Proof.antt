@@ -1,9 +1,9 @@
--- `blocks::after_record` meets its contract: one stop more, or as many. Assumes nothing.
+-- `block_lines::after_record` meets its contract: one stop more, or as many. Assumes nothing.
 use mathlib.Core.Path.{sym, _∙_}
 use native.Mathlib.Nat.{add-zero}
 use borrow.Author.Needs.{needs}
-use Rattle.blocks.proofs.after_record.Statement.{statement}
-use Rattle.blocks.proofs.after_record.Tie as tie
+use Rattle.block_lines.proofs.after_record.Statement.{statement}
+use Rattle.block_lines.proofs.after_record.Tie as tie
 
 pub after-record-spec : {M : Type 1} → statement M
 after-record-spec =

@@ -30,9 +30,9 @@ use Rattle.references.specs.Agree.{BlockKeysAmong}
 use Rattle.records.specs.Layouts.{layoutTest}
 use Rattle.records.specs.Facts.{LineRead}
 use Rattle.records.proofs.FileLaws.{block-fields, block-room, block-put}
-use Rattle.blocks.specs.Lines.{keysFrom, rowTest, recordTest, blockStep}
-use Rattle.blocks.specs.declared.LineStep.the-variants.{Leads, Refused}
-use Rattle.blocks.proofs.TestLaws.{test-in-order}
+use Rattle.block_lines.specs.Lines.{keysFrom, rowTest, recordTest, blockStep}
+use Rattle.block_lines.specs.declared.LineStep.the-variants.{Leads, Refused}
+use Rattle.block_lines.proofs.TestLaws.{test-in-order}
 
 -- the lent tables' own context
 pub keys-agree : (form : Form) (n : BlockCounts) (co mo st fo : List ℕ) → BlockKeysAmong (keysFrom form n co mo st fo) n co mo st fo

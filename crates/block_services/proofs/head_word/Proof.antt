@@ -1,12 +1,12 @@
--- `blocks::head_word` meets its contract: each arm is one of the laws of the first word. Assumes nothing.
+-- `block_services::head_word` meets its contract: each arm is one of the laws of the first word. Assumes nothing.
 use mathlib.Core.Path.{ap, _∙_}
 use native.Mathlib.Omega.{arith}
 use borrow.Author.Needs.{needs}
 use Rattle.iff.specs.Values.{numberOf, codeOf}
-use Rattle.blocks.proofs.ServiceLaws.{part-small, head-service, head-company, head-footnote, head-mode, head-attribute}
-use Rattle.blocks.proofs.ServiceLaws.{head-platform, head-station}
-use Rattle.blocks.proofs.head_word.Statement.{statement}
-use Rattle.blocks.proofs.head_word.Tie as tie
+use Rattle.block_services.proofs.ServiceLaws.{part-small, head-service, head-company, head-footnote, head-mode, head-attribute}
+use Rattle.block_services.proofs.ServiceLaws.{head-platform, head-station}
+use Rattle.block_services.proofs.head_word.Statement.{statement}
+use Rattle.block_services.proofs.head_word.Tie as tie
 
 pub head-word-spec : {M : Type 1} → statement M
 head-word-spec =

@@ -1,10 +1,10 @@
--- `blocks::service_of` meets its contract: the first line is the one that ends first, or the whole text. Assumes nothing.
+-- `block_services::service_of` meets its contract: the first line is the one that ends first, or the whole text. Assumes nothing.
 use mathlib.Core.Path.{sym, _∙_}
 use native.Mathlib.Omega.{arith}
 use borrow.Author.Needs.{needs}
-use Rattle.blocks.proofs.ServiceLaws.{first-ends, service-ended, service-unended}
-use Rattle.blocks.proofs.service_of.Statement.{statement}
-use Rattle.blocks.proofs.service_of.Tie as tie
+use Rattle.block_services.proofs.ServiceLaws.{first-ends, service-ended, service-unended}
+use Rattle.block_services.proofs.service_of.Statement.{statement}
+use Rattle.block_services.proofs.service_of.Tie as tie
 
 pub service-of-spec : {M : Type 1} → statement M
 service-of-spec =

@@ -1,12 +1,12 @@
--- `blocks::record_test` meets its contract: each way out is one of the laws of a record. Assumes nothing.
+-- `block_lines::record_test` meets its contract: each way out is one of the laws of a record. Assumes nothing.
 use mathlib.Core.Path.{refl}
 use borrow.Author.Needs.{needs}
 use Rattle.iff_rules.specs.Rows.{Context}
 use Rattle.records.specs.Layouts.{lineOf}
-use Rattle.blocks.specs.Lines.{keysFrom}
-use Rattle.blocks.proofs.StepLaws.{has-room, layout-fails, layout-passes}
-use Rattle.blocks.proofs.record_test.Statement.{statement}
-use Rattle.blocks.proofs.record_test.Tie as tie
+use Rattle.block_lines.specs.Lines.{keysFrom}
+use Rattle.block_lines.proofs.StepLaws.{has-room, layout-fails, layout-passes}
+use Rattle.block_lines.proofs.record_test.Statement.{statement}
+use Rattle.block_lines.proofs.record_test.Tie as tie
 
 -- the place before the first call, from the one after the line was read
 abbrev start : tie.After-read-line → tie.Start

@@ -24,8 +24,8 @@ use Rattle.iff_rules.specs.Load.{blockNext}
 use Rattle.records.specs.Layouts.{layoutTest}
 use Rattle.keys.specs.Lookup.{keysAmong}
 use Rattle.references.specs.declared.BlockCounts.{BlockCounts}
-use Rattle.blocks.specs.declared.LineStep.{LineStep}
-use Rattle.blocks.specs.declared.LineStep.the-variants.{Leads, Refused}
+use Rattle.block_lines.specs.declared.LineStep.{LineStep}
+use Rattle.block_lines.specs.declared.LineStep.the-variants.{Leads, Refused}
 
 -- a form, and the keys of the four tables that a block's lines name, among so many of their first rows, and nothing else
 unfoldable pub keysFrom : Form → BlockCounts → List ℕ → List ℕ → List ℕ → List ℕ → Context

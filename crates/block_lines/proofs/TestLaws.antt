@@ -37,7 +37,7 @@ use Rattle.iff_rules.specs.Legs.{one}
 use Rattle.iff_rules.specs.Load.{blockTest, blockMoves, blockNext}
 use Rattle.records.specs.Layouts.{layoutTest, legible}
 use Rattle.records.proofs.FileLaws.{row-tag, legible-line}
-use Rattle.blocks.specs.Lines.{blockTestWith, recordTest}
+use Rattle.block_lines.specs.Lines.{blockTestWith, recordTest}
 
 -- IN THE ORDER OF THE WORK
 both : (l r m f x : Bool)
