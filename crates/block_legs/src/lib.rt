@@ -23,7 +23,7 @@ fn line_row(line: &[u8], form: iff::Form, n: u64, row: &mut [u64])
 {
     let letter = text::first_byte(line);
     let kind = records::block_record(letter);
-    records::put_words(kind, letter as u64, form, n, line, row);
+    record_lines::put_words(kind, letter as u64, form, n, line, row);
 }
 
 // A record that names a first and a last stop. The others, which are most of a block's, need no row here.

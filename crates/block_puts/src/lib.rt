@@ -123,7 +123,7 @@ fn judge_again(
     ensures { λ r. ⌜ BlockJudged form (now (block .entry)) counts
         (now (companies .entry)) (now (modes .entry)) (now (stations .entry)) (now (footnotes .entry)) (now (t .entry)) (now (t .exit)) row r ⌝ }
 {
-    let service = blocks::service_of(block);
+    let service = block_services::service_of(block);
     let came = lookups::names_among(iff::File::Timetbls, t, row, service);
     check_then_write(
         block,
@@ -218,7 +218,7 @@ pub fn add_block(
     ensures { λ r. ⌜ BlockAdded form (now (block .entry)) (now (t .entry)) (now (t .exit)) (now (marks .exit)) counts
         (now (companies .entry)) (now (modes .entry)) (now (stations .entry)) (now (footnotes .entry)) row search r ⌝ }
 {
-    let service = blocks::service_of(block);
+    let service = block_services::service_of(block);
     let new = tell_new(search, run, marks, t, row, service);
     match try_block(
         block,

@@ -17,7 +17,7 @@ fn fill_row(line: &[u8], form: iff::Form, k: u64, n: u64, j: u64, row: &mut [u64
 {
     let letter = text::first_byte(line);
     let kind = records::block_record(letter);
-    records::put_words(kind, letter as u64, form, n, line, row);
+    record_lines::put_words(kind, letter as u64, form, n, line, row);
     row[iff::words::LINE_NUMBER] = j;
     if letter != b'#' {
         return;

@@ -130,7 +130,7 @@ fn add_row(
         (lineOf (now (line .entry)) ended) (now (t .entry)) (now (t .exit)) r ⌝ }
 {
     let kind = records::row_record(file);
-    match records::read_line(kind, iff::tags::LETTERLESS, form, line, ended, row) {
+    match record_lines::read_line(kind, iff::tags::LETTERLESS, form, line, ended, row) {
         Test::Fails(r) => RowKept::Refused(r),
         Test::Passes => store_row(
             file,

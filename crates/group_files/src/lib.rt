@@ -49,7 +49,7 @@ fn add_lines(
 {
     let mut at = from;
     let mut read: usize = 0;
-    let mut group = group_lines::opening(fresh_keys::no_keys());
+    let mut group = open_groups::opening(fresh_keys::no_keys());
     while at < text.len() {
         let s = text::line_at(text, at);
         let end = s.end;

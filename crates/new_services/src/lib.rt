@@ -72,7 +72,7 @@ pub fn after_block(run: fresh_keys::KeyRun, marks: &mut [u8], block: &[u8]) -> f
     requires { ⌜ length (now marks) ≡ slots ⌝ }
     ensures { λ r. ⌜ ((form : Form) → Remembered run (now (marks .entry)) (serviceOf form (asBlock (now (block .entry)))) (now (marks .exit)) r) ⌝ }
 {
-    let service = blocks::service_of(block);
+    let service = block_services::service_of(block);
     marks::mark(marks, service);
     fresh_keys::next_run(run, service)
 }

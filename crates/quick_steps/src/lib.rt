@@ -9,7 +9,7 @@ ghost use Rattle.iff.specs.declared.Next.the-variants.{Goes};
 ghost use Rattle.iff_rules.specs.Meaning.{mostStops};
 ghost use Rattle.iff_rules.specs.Order.{isStop, goes};
 ghost use Rattle.iff_rules.specs.Legs.{one};
-ghost use Rattle.blocks.specs.Lines.{keysFrom};
+ghost use Rattle.block_lines.specs.Lines.{keysFrom};
 ghost use Rattle.quick_steps.specs.Places.{placeInBlock, goesFrom};
 ghost use Rattle.quick_steps.specs.Steps.{Passing, WordsPut, LineTurn};
 
