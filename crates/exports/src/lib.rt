@@ -170,7 +170,7 @@ pub extern "C" fn calyxcabin_is_sound(
         (now (stations .entry)) (now (footnote .entry)) (now (timetbls .entry)) (now (changes .entry)) (now (xfootnote .entry))
         (now (xchanges .entry)))) ⌝ }
 {
-    let sound = sound::is_sound(
+    let sound = sound_tables::is_sound(
         delivery,
         company,
         country,

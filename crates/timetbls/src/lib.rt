@@ -90,7 +90,7 @@ pub fn read_blocks(
                 &mut places,
             );
             let mut marks = [0u8; 524288];
-            block_walks::walk_blocks(
+            block_repeats::walk_blocks(
                 text,
                 from,
                 form,

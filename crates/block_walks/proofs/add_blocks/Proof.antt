@@ -3,7 +3,7 @@ use Prim.Native.Nat.{_-_}
 use mathlib.Core.Path.{_≡_, sym, _∙_}
 use borrow.Author.Needs.{needs}
 use lib.ListN.{length}
-use Rattle.block_walks.proofs.ReadLaws.{Adding, adding-start, addable, adding-faulty, adding-next, adding-end}
+use Rattle.block_walks.proofs.AddLaws.{Adding, adding-start, addable, adding-faulty, adding-next, adding-end}
 use Rattle.block_walks.proofs.add_blocks.Statement.{statement}
 use Rattle.block_walks.proofs.add_blocks.Tie as tie
 

@@ -4,9 +4,9 @@ use mathlib.Core.Path.{_≡_, refl, _∙_}
 use mathlib.Core.Bool.{false}
 use native.Mathlib.Omega.{arith}
 use borrow.Author.Needs.{needs}
-use Rattle.block_walks.proofs.ReadLaws.{walk-sure, walk-never, walk-again, again-inside, alone, told-again, ready-again}
-use Rattle.block_walks.proofs.walk_blocks.Statement.{statement}
-use Rattle.block_walks.proofs.walk_blocks.Tie as tie
+use Rattle.block_repeats.proofs.ReadLaws.{walk-sure, walk-never, walk-again, again-inside, alone, told-again, ready-again}
+use Rattle.block_repeats.proofs.walk_blocks.Statement.{statement}
+use Rattle.block_repeats.proofs.walk_blocks.Tie as tie
 
 -- THE PLACES AFTER EACH STEP, each from the next
 abbrev start : tie.After-add-blocks → tie.Start

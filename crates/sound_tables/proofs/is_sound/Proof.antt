@@ -1,7 +1,7 @@
 -- `is_sound` meets its contract: it answers what is told with slots of its own. Assumes nothing.
 use borrow.Author.Needs.{needs}
-use Rattle.sound.proofs.is_sound.Statement.{statement}
-use Rattle.sound.proofs.is_sound.Tie as tie
+use Rattle.sound_tables.proofs.is_sound.Statement.{statement}
+use Rattle.sound_tables.proofs.is_sound.Tie as tie
 
 returns : tie.Need-returns
 returns c = c .before .is-sound-by .ensures

@@ -1,8 +1,8 @@
 -- `timetbls::clear_blocks` meets its contract. Assumes nothing.
 use borrow.Author.Needs.{needs}
-use Rattle.block_walks.proofs.ReadLaws.{cleared}
-use Rattle.block_walks.proofs.clear_blocks.Statement.{statement}
-use Rattle.block_walks.proofs.clear_blocks.Tie as tie
+use Rattle.block_repeats.proofs.ReadLaws.{cleared}
+use Rattle.block_repeats.proofs.clear_blocks.Statement.{statement}
+use Rattle.block_repeats.proofs.clear_blocks.Tie as tie
 
 returns : tie.Need-returns
 returns c =
