@@ -4,9 +4,9 @@ use borrow.Author.Needs.{needs}
 use Rattle.iff.specs.Tables.{groupWidth, rowAt, rowsIn}
 use Rattle.iff.specs.declared.GroupFile.the-variants.{Xfootnote, Xchanges}
 use Rattle.iff.specs.declared.File.the-variants.{Groups}
-use Rattle.exceptions.proofs.RowLaws.{from-misses, to-misses, keys-fit}
-use Rattle.exceptions.proofs.applies.Statement.{statement}
-use Rattle.exceptions.proofs.applies.Tie as tie
+use Rattle.exception_rows.proofs.RowLaws.{from-misses, to-misses, keys-fit}
+use Rattle.exception_rows.proofs.applies.Statement.{statement}
+use Rattle.exception_rows.proofs.applies.Tie as tie
 
 returns : tie.Need-returns
 returns c =

@@ -1,7 +1,7 @@
 -- `from_keys` meets its contract: two words of the row. Assumes nothing.
 use borrow.Author.Needs.{needs}
-use Rattle.exceptions.proofs.from_keys.Statement.{statement}
-use Rattle.exceptions.proofs.from_keys.Tie as tie
+use Rattle.exception_rows.proofs.from_keys.Statement.{statement}
+use Rattle.exception_rows.proofs.from_keys.Tie as tie
 
 returns : tie.Need-returns
 returns c = rw (c .before .word-at .ensures, c .word-at2 .ensures)

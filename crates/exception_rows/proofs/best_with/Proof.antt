@@ -1,7 +1,7 @@
 -- `best_with` meets its contract: a row that does not apply changes nothing. Assumes nothing.
 use borrow.Author.Needs.{needs}
-use Rattle.exceptions.proofs.best_with.Statement.{statement}
-use Rattle.exceptions.proofs.best_with.Tie as tie
+use Rattle.exception_rows.proofs.best_with.Statement.{statement}
+use Rattle.exception_rows.proofs.best_with.Tie as tie
 
 returns : tie.Need-returns
 returns c = rw (← c .before .before .applies .ensures, c .before .if1 .taken) (c .weighed .ensures)

@@ -1,8 +1,8 @@
 -- `is_pair` meets its contract. Assumes nothing.
 use borrow.Author.Needs.{needs}
 use borrow.Author.Tests.{eq-eqb, ne-eqb}
-use Rattle.exceptions.proofs.is_pair.Statement.{statement}
-use Rattle.exceptions.proofs.is_pair.Tie as tie
+use Rattle.pairs.proofs.is_pair.Statement.{statement}
+use Rattle.pairs.proofs.is_pair.Tie as tie
 
 returns : tie.Need-returns
 returns c =

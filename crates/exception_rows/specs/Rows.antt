@@ -1,18 +1,13 @@
--- The tests of rows of CHANGES and XCHANGES.
+-- The tests of rows of XCHANGES.
 use Prim.Native.Nat.{ℕ}
 use mathlib.Core.List.{List}
 use mathlib.Core.Bool.{Bool, _&&_, cond}
-use lib.Dec.{eqb}
 use Rattle.iff.specs.Tables.{Row}
-use Rattle.iff.specs.Words.{fromService, toService, exceptionTime, exceptionFootnote}
+use Rattle.iff.specs.Words.{exceptionTime, exceptionFootnote}
 use Rattle.iff_desk.specs.Store.{marked, vectorOf}
 use Rattle.iff_desk.specs.Changing.{fromKeys, toKeys, fits, rank, better}
 use Rattle.iff_desk.specs.declared.Riding.{Riding}
 use Rattle.iff_desk.specs.declared.Best.{Best}
-
--- a row of CHANGES is that of two services
-abbrev pub isPair : ℕ → ℕ → Row → Bool
-isPair a b r = eqb (fromService r) a && eqb (toService r) b
 
 -- a row of XCHANGES applies, with the vectors of some rows of XFOOTNOTE
 abbrev pub appliesBy : List Row → Riding → Riding → ℕ → Row → Bool

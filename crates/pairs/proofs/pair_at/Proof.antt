@@ -1,8 +1,8 @@
 -- `pair_at` meets its contract: the rows after the `#` of the station's group. Assumes nothing.
 use borrow.Author.Needs.{needs}
-use Rattle.exceptions.proofs.RowLaws.{pair-of-group}
-use Rattle.exceptions.proofs.pair_at.Statement.{statement}
-use Rattle.exceptions.proofs.pair_at.Tie as tie
+use Rattle.pairs.proofs.RowLaws.{pair-of-group}
+use Rattle.pairs.proofs.pair_at.Statement.{statement}
+use Rattle.pairs.proofs.pair_at.Tie as tie
 
 returns : tie.Need-returns
 returns c R e =

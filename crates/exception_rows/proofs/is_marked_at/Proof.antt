@@ -1,7 +1,7 @@
 -- `is_marked_at` meets its contract: the row's own footnote. Assumes nothing.
 use borrow.Author.Needs.{needs}
-use Rattle.exceptions.proofs.is_marked_at.Statement.{statement}
-use Rattle.exceptions.proofs.is_marked_at.Tie as tie
+use Rattle.exception_rows.proofs.is_marked_at.Statement.{statement}
+use Rattle.exception_rows.proofs.is_marked_at.Tie as tie
 
 returns : tie.Need-returns
 returns c = rw (← c .before .word-at .ensures) (c .is-marked .ensures)

@@ -9,10 +9,10 @@ use Rattle.iff_desk.specs.Changing.{pairIn}
 use Rattle.iff_desk.specs.declared.Pair.the-variants.{Possibility}
 use Rattle.tables.proofs.Rows.{row-inside}
 use Rattle.keys.specs.Blocks.{rowsBetween}
-use Rattle.exceptions.specs.Rows.{isPair}
-use Rattle.exceptions.proofs.RowLaws.{no-pair, pair-here, pair-on}
-use Rattle.exceptions.proofs.pair_in.Statement.{statement}
-use Rattle.exceptions.proofs.pair_in.Tie as tie
+use Rattle.pairs.specs.Rows.{isPair}
+use Rattle.pairs.proofs.RowLaws.{no-pair, pair-here, pair-on}
+use Rattle.pairs.proofs.pair_in.Statement.{statement}
+use Rattle.pairs.proofs.pair_in.Tie as tie
 
 abbrev Inv-loop : tie.InvT-loop
 Inv-loop t from to a b i₀ i =

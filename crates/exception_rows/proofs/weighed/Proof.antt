@@ -1,7 +1,7 @@
 -- `weighed` meets its contract: the row's rank and its time. Assumes nothing.
 use borrow.Author.Needs.{needs}
-use Rattle.exceptions.proofs.weighed.Statement.{statement}
-use Rattle.exceptions.proofs.weighed.Tie as tie
+use Rattle.exception_rows.proofs.weighed.Statement.{statement}
+use Rattle.exception_rows.proofs.weighed.Tie as tie
 
 returns : tie.Need-returns
 returns c =
