@@ -20,8 +20,8 @@ use Rattle.fresh_keys.proofs.Runs.{run-rises}
 use Rattle.keys.specs.Blocks.{rowsBetween}
 use Rattle.keys.specs.Lookup.{keysAmong}
 use Rattle.keys.proofs.Among.{any-row}
-use Rattle.repeats.specs.Classes.{servicesFrom}
-use Rattle.repeats.proofs.RowLaws.{next-service, same-services, none-left}
+use Rattle.key_classes.specs.Classes.{servicesFrom}
+use Rattle.key_classes.proofs.RowLaws.{next-service, same-services, none-left}
 use Rattle.slots.specs.Slots.{keyAt}
 use Rattle.index.specs.Keying.{Indexed}
 use Rattle.index.specs.declared.Next.{Next}

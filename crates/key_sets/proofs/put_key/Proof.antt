@@ -1,9 +1,9 @@
 -- `put_key` meets its contract: a walk over the slots tells whether the key is new. Assumes nothing.
 use native.Mathlib.Omega.{arith}
 use borrow.Author.Needs.{needs}
-use Rattle.repeats.proofs.SetLaws.{put-free, put-taken, put-nowhere}
-use Rattle.repeats.proofs.put_key.Statement.{statement}
-use Rattle.repeats.proofs.put_key.Tie as tie
+use Rattle.key_sets.proofs.SetLaws.{put-free, put-taken, put-nowhere}
+use Rattle.key_sets.proofs.put_key.Statement.{statement}
+use Rattle.key_sets.proofs.put_key.Tie as tie
 
 returns : tie.Need-returns
 returns c =

@@ -2,10 +2,10 @@
 use Prim.Native.Nat.{_-_, _≤_}
 use native.Mathlib.Omega.{arith}
 use borrow.Author.Needs.{needs}
-use Rattle.repeats.specs.Sets.{NoneFree, Others}
-use Rattle.repeats.proofs.SetLaws.{one-slot-more, free-met, taken-met, full-met}
-use Rattle.repeats.proofs.probe.Statement.{statement}
-use Rattle.repeats.proofs.probe.Tie as tie
+use Rattle.key_sets.specs.Sets.{NoneFree, Others}
+use Rattle.key_sets.proofs.SetLaws.{one-slot-more, free-met, taken-met, full-met}
+use Rattle.key_sets.proofs.probe.Statement.{statement}
+use Rattle.key_sets.proofs.probe.Tie as tie
 
 abbrev Inv-loop : tie.InvT-loop
 Inv-loop set key held from end at₀ at = (from ≤ at) × (NoneFree set from at × Others set key from at)

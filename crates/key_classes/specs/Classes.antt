@@ -8,11 +8,11 @@ use Rattle.iff.specs.declared.File.the-variants.{Timetbls}
 use Rattle.iff.specs.Tables.{rowWidth, rowAt, isHashRow, keysOf}
 use Rattle.keys.specs.Blocks.{rowsBetween}
 use Rattle.keys.specs.Lookup.{keysAmong}
-use Rattle.repeats.specs.Sets.{Held, NewPut, Stands}
-use Rattle.repeats.specs.declared.Tried.{Tried}
-use Rattle.repeats.specs.declared.Tried.the-variants.{Goes, Came}
-use Rattle.repeats.specs.declared.Asked.{Asked}
-use Rattle.repeats.specs.declared.Asked.the-variants.{Upto}
+use Rattle.key_sets.specs.Sets.{Held, NewPut, Stands}
+use Rattle.key_sets.specs.declared.Tried.{Tried}
+use Rattle.key_sets.specs.declared.Tried.the-variants.{Goes, Came}
+use Rattle.key_classes.specs.declared.Asked.{Asked}
+use Rattle.key_classes.specs.declared.Asked.the-variants.{Upto}
 
 -- a key's class, of so many: any function of the key serves
 unfoldable pub classOf : ℕ → ℕ → ℕ
@@ -67,8 +67,3 @@ pub record Walking (classes class used upto : ℕ) (t : List ℕ) (slots n i : �
   pub left : drop n (keysAmong Timetbls used t) ≡ servicesFrom t used i
   pub clear : ClearTo classes class (keysAmong Timetbls used t) n
   pub holds : SetOf classes class (keysAmong Timetbls used t) n slots ps
-
--- ALL CLASSES: before a class, n keys are left to be asked
-pub record Asking (classes : ℕ) (ks : List ℕ) (used class n : ℕ) : Type 0 where
-  pub clear : (d : ℕ) → d < class → ClearTo classes d ks n
-  pub again : n < used → CameAgain ks n

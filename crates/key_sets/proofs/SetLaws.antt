@@ -10,9 +10,9 @@ use lib.ListN.{length, getD, set, replicate}
 use lib.Seq.{getD-set-same, getD-set-other}
 use Rattle.keys.specs.Places.{probes}
 use Rattle.keys.proofs.PlaceLaws.{place-inside}
-use Rattle.repeats.specs.Sets.{window, firstSlot, AllFree, NoneFree, Others, FirstFree, Held, Probed, KeyPut, Stands}
-use Rattle.repeats.specs.declared.Met.the-variants.{Free, Taken, Full}
-use Rattle.repeats.specs.declared.Tried.the-variants.{Goes, Came, NoRoom}
+use Rattle.key_sets.specs.Sets.{window, firstSlot, AllFree, NoneFree, Others, FirstFree, Held, Probed, KeyPut, Stands}
+use Rattle.key_sets.specs.declared.Met.the-variants.{Free, Taken, Full}
+use Rattle.key_sets.specs.declared.Tried.the-variants.{Goes, Came, NoRoom}
 
 pub all-free : (n : ℕ) → AllFree (replicate n 0)
 all-free zero s = refl

@@ -8,12 +8,12 @@ use native.Mathlib.Omega.{arith}
 use borrow.Author.Tests.{ltb-true, ltb-false, eqb-true, eqb-false}
 use lib.Dec.{ltb, eqb}
 use lib.ListN.{length, getD, set, length-set}
-use Rattle.repeats.specs.Sets.{AllFree, FirstFree, Held, KeyPut, Stands}
-use Rattle.repeats.specs.Classes.{classOf, CameBy, CameAgain, ClearTo, KeyTried, ClassLeft, ClassAsked, SetOf, Asking}
-use Rattle.repeats.specs.declared.Tried.{Tried}
-use Rattle.repeats.specs.declared.Tried.the-variants.{Goes}
-use Rattle.repeats.specs.declared.Asked.the-variants.{Upto, Nothing}
-use Rattle.repeats.proofs.SetLaws.{still-stands, now-stands, holds-still, holds-new}
+use Rattle.key_sets.specs.Sets.{AllFree, FirstFree, Held, KeyPut, Stands}
+use Rattle.key_classes.specs.Classes.{classOf, CameBy, CameAgain, ClearTo, KeyTried, ClassLeft, ClassAsked, SetOf}
+use Rattle.key_sets.specs.declared.Tried.{Tried}
+use Rattle.key_sets.specs.declared.Tried.the-variants.{Goes}
+use Rattle.key_classes.specs.declared.Asked.the-variants.{Upto, Nothing}
+use Rattle.key_sets.proofs.SetLaws.{still-stands, now-stands, holds-still, holds-new}
 
 pub class-below : (classes key : ℕ) → 0 < classes → classOf classes key < classes
 unfolding classOf
@@ -134,27 +134,3 @@ module _ (classes class : ℕ) (ks : List ℕ) (upto : ℕ) where
   -- or those before one that came
   pub asked-again : (n : ℕ) → n < upto → n < length ks → ClearTo classes class ks n → CameBy ks n (getD ks n 0) → ClassAsked classes class ks upto (Upto n)
   asked-again n h l c a = asked n (record { most = omega arith; clear = c; again = λ g. record { inside = l; came = a } })
-
--- ALL CLASSES
-module _ (classes : ℕ) (ks : List ℕ) (used : ℕ) where
-  pub none-yet : Asking classes ks used 0 used
-  none-yet = record { clear = λ d l. absurd (omega arith); again = λ l. absurd (omega arith) }
-
-  pub one-class : (class upto n : ℕ) → Asking classes ks used class upto → ClassLeft classes class ks upto n → Asking classes ks used (class + 1) n
-  one-class class upto n x l =
-      record {
-        clear = λ d h. go d h (ltb d class) refl;
-        again = λ h. again h (ltb n upto) refl;
-      }
-    where
-      go : (d : ℕ) → d < class + 1 → (b : Bool) → ltb d class ≡ b → ClearTo classes d ks n
-      go d h true q = λ j g. x .clear d (ltb-true d class q) j (omega (arith, l .most))
-      go d h false q =
-          let z : d ≡ class = omega (arith, ltb-false d class q) in
-          rw z (l .clear)
-
-      again : n < used → (b : Bool) → ltb n upto ≡ b → CameAgain ks n
-      again h true q = l .again (ltb-true n upto q)
-      again h false q =
-          let z : n ≡ upto = omega (arith, ltb-false n upto q, l .most) in
-          rw z (x .again (omega arith))

@@ -8,11 +8,11 @@ use lib.ListN.{length}
 use Rattle.iff.specs.Tables.{rowWidth}
 use Rattle.iff.specs.declared.File.the-variants.{Timetbls}
 use Rattle.tables.proofs.Rows.{row-inside}
-use Rattle.repeats.specs.Classes.{Walking}
-use Rattle.repeats.proofs.ClassLaws.{not-asked}
-use Rattle.repeats.proofs.RowLaws.{starts, ends, enough, came, goes-on}
-use Rattle.repeats.proofs.walk_class.Statement.{statement}
-use Rattle.repeats.proofs.walk_class.Tie as tie
+use Rattle.key_classes.specs.Classes.{Walking}
+use Rattle.key_classes.proofs.ClassLaws.{not-asked}
+use Rattle.key_classes.proofs.RowLaws.{starts, ends, enough, came, goes-on}
+use Rattle.key_classes.proofs.walk_class.Statement.{statement}
+use Rattle.key_classes.proofs.walk_class.Tie as tie
 
 abbrev Inv-loop : tie.InvT-loop
 Inv-loop t used upto classes class set₀ met₀ i₀ set met i = Walking classes class used upto t (length set₀) met i set

@@ -15,12 +15,12 @@ use Rattle.keys.specs.Lookup.{keysAmong}
 use Rattle.keys.proofs.Among.{keys-there}
 use Rattle.keys.proofs.Blocks.{between-first}
 use Rattle.walks.specs.Heads.{NextHead}
-use Rattle.repeats.specs.Sets.{AllFree, Held}
-use Rattle.repeats.specs.Classes.{KeyTried, ClassAsked, servicesFrom, Walking}
-use Rattle.repeats.specs.declared.Tried.{Tried}
-use Rattle.repeats.specs.declared.Tried.the-variants.{Goes}
-use Rattle.repeats.specs.declared.Asked.the-variants.{Upto}
-use Rattle.repeats.proofs.ClassLaws.{none-held, none-asked, held-came, key-held, key-clear, asked-all, asked-again}
+use Rattle.key_sets.specs.Sets.{AllFree, Held}
+use Rattle.key_classes.specs.Classes.{KeyTried, ClassAsked, servicesFrom, Walking}
+use Rattle.key_sets.specs.declared.Tried.{Tried}
+use Rattle.key_sets.specs.declared.Tried.the-variants.{Goes}
+use Rattle.key_classes.specs.declared.Asked.the-variants.{Upto}
+use Rattle.key_classes.proofs.ClassLaws.{none-held, none-asked, held-came, key-held, key-clear, asked-all, asked-again}
 
 -- the services are those that open the blocks
 services-open : (rs : List Row) → keysOf Timetbls rs ≡ map (λ g. word (g .top) (keyWord Timetbls)) (groups isHashRow rs)

@@ -1,9 +1,9 @@
 -- `class_of` meets its contract. Assumes nothing.
 use mathlib.Core.Path.{refl}
 use borrow.Author.Needs.{needs}
-use Rattle.repeats.specs.Classes.{classOf}
-use Rattle.repeats.proofs.class_of.Statement.{statement}
-use Rattle.repeats.proofs.class_of.Tie as tie
+use Rattle.key_classes.specs.Classes.{classOf}
+use Rattle.key_classes.proofs.class_of.Statement.{statement}
+use Rattle.key_classes.proofs.class_of.Tie as tie
 
 returns : tie.Need-returns
 unfolding classOf

@@ -1,8 +1,8 @@
 -- `ask_class` meets its contract: its set is empty at first. Assumes nothing.
 use borrow.Author.Needs.{needs}
-use Rattle.repeats.proofs.SetLaws.{all-free}
-use Rattle.repeats.proofs.ask_class.Statement.{statement}
-use Rattle.repeats.proofs.ask_class.Tie as tie
+use Rattle.key_sets.proofs.SetLaws.{all-free}
+use Rattle.key_classes.proofs.ask_class.Statement.{statement}
+use Rattle.key_classes.proofs.ask_class.Tie as tie
 
 walk-class-requires : tie.Need-walk-class-requires
 walk-class-requires c κs =

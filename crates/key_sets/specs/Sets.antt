@@ -5,10 +5,10 @@ use mathlib.Core.Path.{_≡_}
 use mathlib.Core.List.{List}
 use lib.ListN.{length, getD, set}
 use Rattle.keys.specs.Places.{probes, placeOf}
-use Rattle.repeats.specs.declared.Met.{Met}
-use Rattle.repeats.specs.declared.Met.the-variants.{Free, Taken}
-use Rattle.repeats.specs.declared.Tried.{Tried}
-use Rattle.repeats.specs.declared.Tried.the-variants.{Goes, Came}
+use Rattle.key_sets.specs.declared.Met.{Met}
+use Rattle.key_sets.specs.declared.Met.the-variants.{Free, Taken}
+use Rattle.key_sets.specs.declared.Tried.{Tried}
+use Rattle.key_sets.specs.declared.Tried.the-variants.{Goes, Came}
 
 -- so many slots are tried for a key
 abbrev pub window : ℕ

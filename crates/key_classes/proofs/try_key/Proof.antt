@@ -1,9 +1,9 @@
 -- `try_key` meets its contract. Assumes nothing.
 use mathlib.Core.Path.{sym, _∙_}
 use borrow.Author.Needs.{needs}
-use Rattle.repeats.proofs.ClassLaws.{tried-here, tried-elsewhere}
-use Rattle.repeats.proofs.try_key.Statement.{statement}
-use Rattle.repeats.proofs.try_key.Tie as tie
+use Rattle.key_classes.proofs.ClassLaws.{tried-here, tried-elsewhere}
+use Rattle.key_classes.proofs.try_key.Statement.{statement}
+use Rattle.key_classes.proofs.try_key.Tie as tie
 
 returns : tie.Need-returns
 returns c =
