@@ -10,9 +10,9 @@ use Rattle.iff.specs.declared.File.the-variants.{Groups}
 use Rattle.keys.specs.Blocks.{rowsBetween}
 use Rattle.tables.proofs.Widths.{widths}
 use Rattle.group_marks.specs.Numbers.{Remembered}
-use Rattle.sound_group_rows.proofs.RowLaws.{fresh-head, fresh-told, fresh-other}
-use Rattle.sound_group_rows.proofs.is_fresh.Statement.{statement}
-use Rattle.sound_group_rows.proofs.is_fresh.Tie as tie
+use Rattle.fresh_group_rows.proofs.FreshLaws.{fresh-head, fresh-told, fresh-other}
+use Rattle.fresh_group_rows.proofs.is_fresh.Statement.{statement}
+use Rattle.fresh_group_rows.proofs.is_fresh.Tie as tie
 
 -- from the test of the letter, where it is no `#`, back to the start
 abbrev start : tie.Else1 → tie.Start

@@ -6,9 +6,9 @@ use borrow.Author.Needs.{needs}
 use borrow.Author.Tests.{not-true, not-false}
 use Rattle.iff.specs.declared.File.the-variants.{Groups}
 use Rattle.tables.proofs.Widths.{widths}
-use Rattle.sound_group_rows.proofs.RowLaws.{fits-row, alone-by}
-use Rattle.sound_group_rows.proofs.is_right_alone.Statement.{statement}
-use Rattle.sound_group_rows.proofs.is_right_alone.Tie as tie
+use Rattle.group_row_tests.proofs.RowLaws.{fits-row, alone-by}
+use Rattle.group_row_tests.proofs.is_right_alone.Statement.{statement}
+use Rattle.group_row_tests.proofs.is_right_alone.Tie as tie
 
 shared-slice-read-tag : tie.Need-shared-slice-read-tag
 shared-slice-read-tag c =
