@@ -6,9 +6,9 @@ use native.Mathlib.Omega.{arith}
 use lib.ListN.{length}
 use borrow.Author.Needs.{needs}
 use borrow.Author.Tests.{not-true, not-false}
-use Rattle.sound_groups.proofs.WalkLaws.{as-wide, GroupsWalked, stray, starts, goes-on, breaks, ends}
-use Rattle.sound_groups.proofs.walk_groups.Statement.{statement}
-use Rattle.sound_groups.proofs.walk_groups.Tie as tie
+use Rattle.group_walks.proofs.WalkLaws.{as-wide, GroupsWalked, stray, starts, goes-on, breaks, ends}
+use Rattle.group_walks.proofs.walk_groups.Statement.{statement}
+use Rattle.group_walks.proofs.walk_groups.Tie as tie
 
 abbrev Inv-loop : tie.InvT-loop
 Inv-loop file t used form counts companies modes stations services places xfootnotes marks₀ w first i₀ marks i =

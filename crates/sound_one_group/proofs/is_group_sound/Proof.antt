@@ -5,9 +5,9 @@ use borrow.Author.Needs.{needs}
 use borrow.Author.Tests.{not-true, not-false}
 use lib.ListN.{length}
 use Rattle.tables.proofs.Rows.{row-inside}
-use Rattle.sound_groups.proofs.GroupLaws.{RowsWalked, starts, goes-on, breaks, ends}
-use Rattle.sound_groups.proofs.is_group_sound.Statement.{statement}
-use Rattle.sound_groups.proofs.is_group_sound.Tie as tie
+use Rattle.sound_one_group.proofs.GroupLaws.{RowsWalked, starts, goes-on, breaks, ends}
+use Rattle.sound_one_group.proofs.is_group_sound.Statement.{statement}
+use Rattle.sound_one_group.proofs.is_group_sound.Tie as tie
 
 abbrev Inv-loop : tie.InvT-loop
 Inv-loop file t w from to form counts companies modes stations services places xfootnotes marks₀ stand₀ i₀ marks stand i =
