@@ -30,7 +30,7 @@ use Rattle.index.proofs.KeyLaws.{none-indexed, at-row, one-indexed, again-told,
 use Rattle.references.specs.declared.BlockCounts.{BlockCounts}
 use Rattle.walks.specs.Heads.{NextHead}
 use Rattle.sound_services.specs.Services.{mostIndexed, ServiceAt, ServicePut, AllGone}
-use Rattle.sound_blocks.specs.Walk.{BlockTold}
+use Rattle.sound_blocks.specs.Blocks.{BlockTold}
 use Rattle.sound_timetbls.specs.Told.{areSound, BlocksTold, EndTold}
 use Rattle.sound_blocks.specs.declared.Tested.{Tested}
 use Rattle.sound_blocks.specs.declared.Tested.the-variants as tested

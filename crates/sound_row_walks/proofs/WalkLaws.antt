@@ -28,8 +28,8 @@ use Rattle.sound_block_rows.specs.Told.{isSound, RowTold}
 use Rattle.sound_block_rows.specs.declared.After.{After}
 use Rattle.sound_block_rows.specs.declared.After.the-variants.{Stands}
 use Rattle.sound_block_rows.specs.declared.After.the-variants as after
-use Rattle.sound_blocks.specs.Walk.{BlockAt, rowsOf, LedTo, BlockWalked}
-use Rattle.sound_blocks.specs.declared.Walked.the-variants.{Through, Unsound}
+use Rattle.sound_row_walks.specs.Walk.{BlockAt, rowsOf, LedTo, BlockWalked}
+use Rattle.sound_row_walks.specs.declared.Walked.the-variants.{Through, Unsound}
 
 -- the stops of one row and of those behind it
 stops-more : (r : Row) (rs : List Row) → stopsOf (r ∷ rs) ≡ one (isStop (tag r)) + stopsOf rs

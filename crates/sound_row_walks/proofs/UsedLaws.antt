@@ -8,7 +8,7 @@ use Rattle.iff.specs.Tables.{word, rowAt, rowWidth, rowsIn}
 use Rattle.iff.specs.declared.File.the-variants.{Timetbls}
 use Rattle.tables.proofs.Rows.{rows-from}
 use Rattle.tables.proofs.Rest.{rest, rest-none, rest-unused, rest-row}
-use Rattle.sound_blocks.specs.Walk.{usedIn}
+use Rattle.sound_row_walks.specs.Walk.{usedIn}
 
 module _ (t : List ℕ) (i : ℕ) (h : i ≤ usedIn t) where
   abbrev room : ℕ

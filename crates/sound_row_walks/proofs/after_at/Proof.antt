@@ -3,8 +3,8 @@ use borrow.Author.Needs.{needs}
 use Rattle.iff.specs.Tables.{rowWidth}
 use Rattle.iff.specs.declared.File.the-variants.{Timetbls}
 use Rattle.walks.proofs.GroupLaws.{part-is-row}
-use Rattle.sound_blocks.proofs.after_at.Statement.{statement}
-use Rattle.sound_blocks.proofs.after_at.Tie as tie
+use Rattle.sound_row_walks.proofs.after_at.Statement.{statement}
+use Rattle.sound_row_walks.proofs.after_at.Tie as tie
 
 returns : tie.Need-returns
 returns c =

@@ -8,11 +8,11 @@ use lib.ListN.{length}
 use Rattle.iff.specs.Tables.{rowWidth}
 use Rattle.iff.specs.declared.File.the-variants.{Timetbls}
 use Rattle.tables.proofs.Rows.{row-in-table}
-use Rattle.sound_blocks.specs.Walk.{usedIn}
-use Rattle.sound_blocks.proofs.UsedLaws.{room-ends, rows-end, row-used}
-use Rattle.sound_blocks.proofs.WalkLaws.{Walking, walk-starts, walk-ends, walk-stops, walk-falls, walk-goes-on}
-use Rattle.sound_blocks.proofs.walk_rows.Statement.{statement}
-use Rattle.sound_blocks.proofs.walk_rows.Tie as tie
+use Rattle.sound_row_walks.specs.Walk.{usedIn}
+use Rattle.sound_row_walks.proofs.UsedLaws.{room-ends, rows-end, row-used}
+use Rattle.sound_row_walks.proofs.WalkLaws.{Walking, walk-starts, walk-ends, walk-stops, walk-falls, walk-goes-on}
+use Rattle.sound_row_walks.proofs.walk_rows.Statement.{statement}
+use Rattle.sound_row_walks.proofs.walk_rows.Tie as tie
 
 abbrev Inv-loop : tie.InvT-loop
 Inv-loop t from counts companies modes stations footnotes places room block₀ i₀ block i =

@@ -1,26 +1,23 @@
--- A walk over the rows of a block, and what is told of the block.
+-- A walk over the rows of a block.
 use Prim.Native.Nat.{ℕ, suc, _*_, _≤_, _<_}
 use mathlib.Core.Path.{_≡_}
 use mathlib.Core.List.{List}
 use mathlib.Core.Bool.{Bool, true, false}
 use lib.ListN.{length}
-use Rattle.iff.specs.Lists.{Group}
-use Rattle.iff.specs.Tables.{Row, rowAt, rowWidth, rowsIn}
+use Rattle.iff.specs.Tables.{Row, rowWidth, rowsIn}
 use Rattle.iff.specs.declared.File.the-variants.{Timetbls}
 use Rattle.iff.specs.declared.InBlock.{InBlock}
 use Rattle.iff_rules.specs.Meaning.{mostStops}
 use Rattle.iff_rules.specs.Legs.{stopsOf}
 use Rattle.iff_rules.specs.Rows.{Context}
 use Rattle.iff_rules.specs.Load.{blockStart}
-use Rattle.iff_desk.specs.Sound.{passes, soundBlockRow, nextRow, rowsStart, standAfterRows, soundBlock}
+use Rattle.iff_desk.specs.Sound.{passes, soundBlockRow, nextRow, rowsStart, standAfterRows}
 use Rattle.keys.specs.Blocks.{rowsBetween}
 use Rattle.references.specs.declared.BlockCounts.{BlockCounts}
 use Rattle.references.specs.Agree.{BlockKeysAmong}
 use Rattle.walks.specs.Heads.{NextHead}
-use Rattle.sound_blocks.specs.declared.Walked.{Walked}
-use Rattle.sound_blocks.specs.declared.Walked.the-variants.{Through, Unsound}
-use Rattle.sound_blocks.specs.declared.Tested.{Tested}
-use Rattle.sound_blocks.specs.declared.Tested.the-variants as tested
+use Rattle.sound_row_walks.specs.declared.Walked.{Walked}
+use Rattle.sound_row_walks.specs.declared.Walked.the-variants.{Through, Unsound}
 
 -- how many rows of a table of TIMETBLS are in use
 abbrev pub usedIn : List ℕ → ℕ
@@ -31,12 +28,9 @@ pub record BlockAt (t : List ℕ) (from used : ℕ) : Type 0 where
   pub some : from < used
   pub inside : used * rowWidth Timetbls ≤ length t
 
--- the rows of a block in its table, and the block as a group
+-- the rows of a block in its table
 abbrev pub rowsOf : List ℕ → ℕ → ℕ → List Row
 rowsOf t from to = rowsBetween (rowWidth Timetbls) t from to
-
-abbrev pub groupOf : List ℕ → ℕ → ℕ → Group Row
-groupOf t from to = record { top = rowAt (rowWidth Timetbls) t from; rest = rowsOf t (suc from) to }
 
 abbrev pub isThrough : Walked → Bool
 isThrough (Through block to) = true
@@ -56,14 +50,3 @@ pub record BlockWalked (counts : BlockCounts) (co mo st fo t : List ℕ) (from u
       (c : Context) → BlockKeysAmong c counts co mo st fo
       → isThrough r ≡ passes (soundBlockRow c) nextRow rowsStart (rowsOf t from end)
   pub ended : (block : InBlock) (to : ℕ) → r ≡ Through block to → (to ≡ end) × LedTo (rowsOf t from end) block
-
-abbrev pub isSound : Tested → Bool
-isSound (tested.Sound to) = true
-isSound tested.Unsound = false
-
--- whether the block is sound
-pub record BlockTold (counts : BlockCounts) (co mo st fo t : List ℕ) (from used : ℕ) (r : Tested) : Type 0 where
-  pub end : ℕ
-  pub next : NextHead (rowWidth Timetbls) t (suc from) used end
-  pub says : (c : Context) → BlockKeysAmong c counts co mo st fo → isSound r ≡ soundBlock c (groupOf t from end)
-  pub ended : (to : ℕ) → r ≡ tested.Sound to → to ≡ end

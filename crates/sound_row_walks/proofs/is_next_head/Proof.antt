@@ -4,8 +4,8 @@ use borrow.Author.Needs.{needs}
 use borrow.Author.Tests.{lt-ltb, le-ltb}
 use Rattle.iff.specs.Bytes.{hash}
 use lib.Dec.{eqb}
-use Rattle.sound_blocks.proofs.is_next_head.Statement.{statement}
-use Rattle.sound_blocks.proofs.is_next_head.Tie as tie
+use Rattle.sound_row_walks.proofs.is_next_head.Statement.{statement}
+use Rattle.sound_row_walks.proofs.is_next_head.Tie as tie
 
 returns : tie.Need-returns
 returns c =
