@@ -10,8 +10,8 @@ use lib.Seq.{getD-set-same, getD-set-other}
 use borrow.Author.Tests.{eq-eqb, ne-eqb, eqb-true, eqb-false, le-leb, lt-leb, lt-ltb, le-ltb, ltb-true, ltb-false}
 use Rattle.iff_rules.specs.Legs.{one, covering, covered}
 use Rattle.iff.specs.Tables.{Row}
-use Rattle.legs.specs.Rows.{onceTo}
-use Rattle.legs.specs.Tally.{Tally}
+use Rattle.leg_marks.specs.Once.{onceTo}
+use Rattle.leg_marks.specs.Tally.{Tally}
 
 -- leg k lies from `first` up to `last`, 1 or 0
 abbrev pub within : ℕ → ℕ → ℕ → ℕ

@@ -1,11 +1,11 @@
--- `legs::all_marked` meets its contract: from the last leg down, what is left to ask is the whole. Assumes nothing.
+-- `leg_marks::all_marked` meets its contract: from the last leg down, what is left to ask is the whole. Assumes nothing.
 use Prim.Native.Nat.{ℕ}
 use mathlib.Core.Path.{refl}
 use borrow.Author.Needs.{needs}
 use lib.ListN.{getD}
-use Rattle.legs.proofs.MarkLaws.{Down, down-not, down-next, down-all}
-use Rattle.legs.proofs.all_marked.Statement.{statement}
-use Rattle.legs.proofs.all_marked.Tie as tie
+use Rattle.leg_marks.proofs.MarkLaws.{Down, down-not, down-next, down-all}
+use Rattle.leg_marks.proofs.all_marked.Statement.{statement}
+use Rattle.leg_marks.proofs.all_marked.Tie as tie
 
 abbrev Inv-loop : tie.InvT-loop
 Inv-loop marks legs leg₀ leg = Down (λ (k : ℕ). getD marks k 0) legs leg

@@ -1,11 +1,11 @@
--- `legs::mark_legs` meets its contract: the legs from `first` up to `leg` have a mark more. Assumes nothing.
+-- `leg_marks::mark_legs` meets its contract: the legs from `first` up to `leg` have a mark more. Assumes nothing.
 use Prim.Native.Nat.{_<_, _-_}
 use native.Mathlib.Omega.{arith}
 use borrow.Author.Needs.{needs}
 use lib.ListN.{length}
-use Rattle.legs.proofs.MarkLaws.{Marking, marked-twice, marked-all, marking-none, marking-next}
-use Rattle.legs.proofs.mark_legs.Statement.{statement}
-use Rattle.legs.proofs.mark_legs.Tie as tie
+use Rattle.leg_marks.proofs.MarkLaws.{Marking, marked-twice, marked-all, marking-none, marking-next}
+use Rattle.leg_marks.proofs.mark_legs.Statement.{statement}
+use Rattle.leg_marks.proofs.mark_legs.Tie as tie
 
 abbrev Inv-loop : tie.InvT-loop
 Inv-loop marks₀ first last end leg₀ marks leg = Marking marks₀ marks first last leg
