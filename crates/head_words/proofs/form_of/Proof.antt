@@ -1,8 +1,8 @@
--- `heads::form_of` meets its contract. Assumes nothing.
+-- `head_words::form_of` meets its contract. Assumes nothing.
 use borrow.Author.Needs.{needs}
 use Rattle.iff_rules.specs.Rows.{formOf}
-use Rattle.heads.proofs.form_of.Statement.{statement}
-use Rattle.heads.proofs.form_of.Tie as tie
+use Rattle.head_words.proofs.form_of.Statement.{statement}
+use Rattle.head_words.proofs.form_of.Tie as tie
 
 returns : tie.Need-returns
 unfolding formOf

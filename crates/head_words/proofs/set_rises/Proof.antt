@@ -1,7 +1,7 @@
--- `heads::set_rises` meets its contract. Assumes nothing.
+-- `head_words::set_rises` meets its contract. Assumes nothing.
 use borrow.Author.Needs.{needs}
-use Rattle.heads.proofs.set_rises.Statement.{statement}
-use Rattle.heads.proofs.set_rises.Tie as tie
+use Rattle.head_words.proofs.set_rises.Statement.{statement}
+use Rattle.head_words.proofs.set_rises.Tie as tie
 
 returns : tie.Need-returns
 returns c = rw (c .flag-of .ensures)
