@@ -47,7 +47,7 @@ pub fn read_first_files(
         r ⌝ }
 {
     let v1 = heads::read_delivery(v, delivery, t_delivery);
-    let form = heads::form_of(t_delivery);
+    let form = head_words::form_of(t_delivery);
     let v2 = row_files::read_row_file(
         RowFile::Company,
         v1,

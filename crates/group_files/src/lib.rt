@@ -364,7 +364,7 @@ pub fn read_group_file(
                     ) {
                         RowsRead::Stopped(r, p) => Verdict::Fault(r, p),
                         RowsRead::AllRead(rises) => {
-                            heads::set_rises(t, rises);
+                            head_words::set_rises(t, rises);
                             Verdict::Fine
                         }
                     }

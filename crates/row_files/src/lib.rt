@@ -40,7 +40,7 @@ pub fn read_row_file(
                     match file_rows::read_rows(file, form, text, from, t, countries, zones) {
                         RowsRead::Stopped(r, p) => Verdict::Fault(r, p),
                         RowsRead::AllRead(rises) => {
-                            heads::set_rises(t, rises);
+                            head_words::set_rises(t, rises);
                             Verdict::Fine
                         }
                     }

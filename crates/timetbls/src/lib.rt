@@ -152,7 +152,7 @@ pub fn read_timetbls(
                             services: 0,
                         },
                         block_walks::BlocksPut::All(rises, rows, services) => {
-                            heads::set_rises(t, rises);
+                            head_words::set_rises(t, rises);
                             TimetblsRead {
                                 verdict: iff::Verdict::Fine,
                                 rows: rows,
