@@ -9,7 +9,7 @@ use borrow.Author.Tests.{ltb-true, ltb-false, eqb-true, eqb-false}
 use lib.Dec.{ltb, eqb}
 use lib.ListN.{length, getD, set, length-set}
 use Rattle.key_sets.specs.Sets.{AllFree, FirstFree, Held, KeyPut, Stands}
-use Rattle.key_classes.specs.Classes.{classOf, CameBy, CameAgain, ClearTo, KeyTried, ClassLeft, ClassAsked, SetOf}
+use Rattle.key_classes.specs.Classes.{classOf, CameBy, ClearTo, KeyTried, ClassLeft, ClassAsked, SetOf}
 use Rattle.key_sets.specs.declared.Tried.{Tried}
 use Rattle.key_sets.specs.declared.Tried.the-variants.{Goes}
 use Rattle.key_classes.specs.declared.Asked.the-variants.{Upto, Nothing}
