@@ -1,4 +1,4 @@
--- `legs::is_covered` meets its contract: after all lines, the marks are the counts. Assumes nothing.
+-- `block_legs::is_covered` meets its contract: after all lines, the marks are the counts. Assumes nothing.
 use mathlib.Core.Path.{_∙_}
 use borrow.Author.Needs.{needs}
 use borrow.Author.Tests.{not-true, not-false}

@@ -1,4 +1,4 @@
--- `timetbls::clear_blocks` meets its contract. Assumes nothing.
+-- `block_repeats::clear_blocks` meets its contract. Assumes nothing.
 use borrow.Author.Needs.{needs}
 use Rattle.block_repeats.proofs.ReadLaws.{cleared}
 use Rattle.block_repeats.proofs.clear_blocks.Statement.{statement}

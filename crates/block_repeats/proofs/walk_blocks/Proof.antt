@@ -1,4 +1,4 @@
--- `timetbls::walk_blocks` meets its contract: what the walk told stands, or a service that came before is the fault, or all is read again. Assumes
+-- `block_repeats::walk_blocks` meets its contract: what the walk told stands, or a service that came before is the fault, or all is read again. Assumes
 -- nothing.
 use mathlib.Core.Path.{_≡_, refl, _∙_}
 use mathlib.Core.Bool.{false}

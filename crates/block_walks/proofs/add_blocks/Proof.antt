@@ -1,4 +1,4 @@
--- `timetbls::add_blocks` meets its contract: the blocks left say what all blocks were to say. Assumes nothing.
+-- `block_walks::add_blocks` meets its contract: the blocks left say what all blocks were to say. Assumes nothing.
 use Prim.Native.Nat.{_-_}
 use mathlib.Core.Path.{_≡_, sym, _∙_}
 use borrow.Author.Needs.{needs}

@@ -1,4 +1,4 @@
--- `order::ends_opened` meets its contract, file by file. Assumes nothing.
+-- `group_order::ends_opened` meets its contract, file by file. Assumes nothing.
 use borrow.Author.Needs.{needs}
 use Rattle.group_order.proofs.ends_opened.Statement.{statement}
 use Rattle.group_order.proofs.ends_opened.Tie as tie

@@ -1,4 +1,4 @@
--- `order::is_only_vector` meets its contract. One vector, and no second. Assumes nothing.
+-- `group_order::is_only_vector` meets its contract. One vector, and no second. Assumes nothing.
 use borrow.Author.Needs.{needs}
 use Rattle.group_order.proofs.is_only_vector.Statement.{statement}
 use Rattle.group_order.proofs.is_only_vector.Tie as tie

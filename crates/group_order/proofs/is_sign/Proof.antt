@@ -1,4 +1,4 @@
--- `order::is_sign` meets its contract. The two signs of a period. Assumes nothing.
+-- `group_order::is_sign` meets its contract. The two signs of a period. Assumes nothing.
 use borrow.Author.Tests.{eq-eqb, ne-eqb}
 use Rattle.group_order.proofs.is_sign.Statement.{statement}
 use Rattle.group_order.proofs.is_sign.Tie as tie

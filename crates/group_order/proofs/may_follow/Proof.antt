@@ -1,4 +1,4 @@
--- `order::may_follow` meets its contract. A group begins with its `#`. Assumes nothing.
+-- `group_order::may_follow` meets its contract. A group begins with its `#`. Assumes nothing.
 use mathlib.Core.Path.{_∙_}
 use borrow.Author.Needs.{needs}
 use Rattle.iff_rules.specs.Order.{mayFollow}

@@ -1,4 +1,4 @@
--- `order::may_stand` meets its contract. What may stand behind the `#`, file by file. Assumes nothing.
+-- `group_order::may_stand` meets its contract. What may stand behind the `#`, file by file. Assumes nothing.
 use borrow.Author.Needs.{needs}
 use Rattle.group_order.proofs.may_stand.Statement.{statement}
 use Rattle.group_order.proofs.may_stand.Tie as tie
