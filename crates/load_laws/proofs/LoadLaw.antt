@@ -380,29 +380,39 @@ module _ (F t z a b : PerFile (List ℕ)) (v0 : Verdict) (header : List ℕ) (fi
     -- THE READERS, file by file
     rows-read : (f : RowFile) → ReadBy (Rows f)
     rows-read Company =
-        record { keys = _; said = rows-said (s .first .companies); table = s .first .companies .table; kept = s .first .companies .kept; emptied = s .cleared .c2; ended = s .settles .s2 }
+        let d = s .first .companies in
+        record { keys = _; said = rows-said d; table = d .table; kept = d .kept; emptied = s .cleared .c2; ended = s .settles .s2 }
     rows-read Country =
-        record { keys = _; said = rows-said (s .first .countries); table = s .first .countries .table; kept = s .first .countries .kept; emptied = s .cleared .c3; ended = s .settles .s3 }
+        let d = s .first .countries in
+        record { keys = _; said = rows-said d; table = d .table; kept = d .kept; emptied = s .cleared .c3; ended = s .settles .s3 }
     rows-read Trnsmode =
-        record { keys = _; said = rows-said (s .first .modes); table = s .first .modes .table; kept = s .first .modes .kept; emptied = s .cleared .c4; ended = s .settles .s4 }
+        let d = s .first .modes in
+        record { keys = _; said = rows-said d; table = d .table; kept = d .kept; emptied = s .cleared .c4; ended = s .settles .s4 }
     rows-read Stations =
-        record { keys = _; said = rows-said (s .first .places); table = s .first .places .table; kept = s .first .places .kept; emptied = s .cleared .c6; ended = s .settles .s6 }
+        let d = s .first .places in
+        record { keys = _; said = rows-said d; table = d .table; kept = d .kept; emptied = s .cleared .c6; ended = s .settles .s6 }
 
     groups-read : (f : GroupFile) → ReadBy (Groups f)
     groups-read Timezone =
-        record { keys = _; said = groups-said (s .first .zones); table = s .first .zones .table; kept = s .first .zones .kept; emptied = s .cleared .c5; ended = s .settles .s5 }
+        let d = s .first .zones in
+        record { keys = _; said = groups-said d; table = d .table; kept = d .kept; emptied = s .cleared .c5; ended = s .settles .s5 }
     groups-read Footnote =
-        record { keys = _; said = groups-said (s .first .footnotes); table = s .first .footnotes .table; kept = s .first .footnotes .kept; emptied = s .cleared .c7; ended = s .settles .s7 }
+        let d = s .first .footnotes in
+        record { keys = _; said = groups-said d; table = d .table; kept = d .kept; emptied = s .cleared .c7; ended = s .settles .s7 }
     groups-read Changes =
-        record { keys = _; said = groups-said (s .last .changed); table = s .last .changed .table; kept = s .last .changed .kept; emptied = s .cleared .c9; ended = s .settles .s9 }
+        let d = s .last .changed in
+        record { keys = _; said = groups-said d; table = d .table; kept = d .kept; emptied = s .cleared .c9; ended = s .settles .s9 }
     groups-read Xfootnote =
-        record { keys = _; said = groups-said (s .last .marked); table = s .last .marked .table; kept = s .last .marked .kept; emptied = s .cleared .c10; ended = s .settles .s10 }
+        let d = s .last .marked in
+        record { keys = _; said = groups-said d; table = d .table; kept = d .kept; emptied = s .cleared .c10; ended = s .settles .s10 }
     groups-read Xchanges =
-        record { keys = _; said = groups-said (s .last .excepted); table = s .last .excepted .table; kept = s .last .excepted .kept; emptied = s .cleared .c11; ended = s .settles .s11 }
+        let d = s .last .excepted in
+        record { keys = _; said = groups-said d; table = d .table; kept = d .kept; emptied = s .cleared .c11; ended = s .settles .s11 }
 
     blocks-read : ReadBy Timetbls
     blocks-read =
-        record { keys = _; said = blocks-said (s .last .blocks); table = s .last .blocks .table; kept = s .last .blocks .kept; emptied = s .cleared .c8; ended = s .settles .s8 }
+        let d = s .last .blocks in
+        record { keys = _; said = blocks-said d; table = d .table; kept = d .kept; emptied = s .cleared .c8; ended = s .settles .s8 }
 
     -- NO FAULT NOW, SO NONE BEFORE: the verdicts in turn
     abbrev turns : List Bool

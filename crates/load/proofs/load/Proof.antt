@@ -99,7 +99,10 @@ read-first-files-requires c κs =
 
 read-last-files-requires : tie.Need-read-last-files-requires
 read-last-files-requires c κs =
-    let f = c .before .before .before .before .before .before .before .before .before .before .before .before .before .before .before .before .before .before .before .before .before .before .before in
+    let f =
+    c .before .before .before .before .before .before .before .before .before .before .before .before .before .before .before .before .before .before
+    .before .before .before .before .before
+    in
     let d = cleared-of-head (head-of-first f) in
     λ g.
     lasts-ready (files (start-cleared d)) (lent (start-cleared d)) (eleven _ _ _ _ _ _ _ _ _ _ _)
@@ -120,25 +123,39 @@ same-length-4 : tie.Need-same-length-4
 same-length-4 c = at-settled c .settle .kept .1 .1 .1 .1 .0 ∙ at-first c .read-first-files .ensures .modes .kept ∙ at-cleared c .clear-all .kept .1 .1 .1 .0
 
 same-length-5 : tie.Need-same-length-5
-same-length-5 c = at-settled c .settle .kept .1 .1 .1 .1 .1 .0 ∙ at-first c .read-first-files .ensures .zones .kept ∙ at-cleared c .clear-all .kept .1 .1 .1 .1 .0
+same-length-5 c =
+    at-settled c .settle .kept .1 .1 .1 .1 .1 .0 ∙ at-first c .read-first-files .ensures .zones .kept
+    ∙ at-cleared c .clear-all .kept .1 .1 .1 .1 .0
 
 same-length-6 : tie.Need-same-length-6
-same-length-6 c = at-settled c .settle .kept .1 .1 .1 .1 .1 .1 .0 ∙ at-first c .read-first-files .ensures .places .kept ∙ at-cleared c .clear-all .kept .1 .1 .1 .1 .1 .0
+same-length-6 c =
+    at-settled c .settle .kept .1 .1 .1 .1 .1 .1 .0 ∙ at-first c .read-first-files .ensures .places .kept
+    ∙ at-cleared c .clear-all .kept .1 .1 .1 .1 .1 .0
 
 same-length-7 : tie.Need-same-length-7
-same-length-7 c = at-settled c .settle .kept .1 .1 .1 .1 .1 .1 .1 .0 ∙ at-first c .read-first-files .ensures .footnotes .kept ∙ at-cleared c .clear-all .kept .1 .1 .1 .1 .1 .1 .0
+same-length-7 c =
+    at-settled c .settle .kept .1 .1 .1 .1 .1 .1 .1 .0 ∙ at-first c .read-first-files .ensures .footnotes .kept
+    ∙ at-cleared c .clear-all .kept .1 .1 .1 .1 .1 .1 .0
 
 same-length-8 : tie.Need-same-length-8
-same-length-8 c = at-settled c .settle .kept .1 .1 .1 .1 .1 .1 .1 .1 .0 ∙ at-last c .read-last-files .ensures .blocks .kept ∙ at-cleared c .clear-all .kept .1 .1 .1 .1 .1 .1 .1 .0
+same-length-8 c =
+    at-settled c .settle .kept .1 .1 .1 .1 .1 .1 .1 .1 .0 ∙ at-last c .read-last-files .ensures .blocks .kept
+    ∙ at-cleared c .clear-all .kept .1 .1 .1 .1 .1 .1 .1 .0
 
 same-length-9 : tie.Need-same-length-9
-same-length-9 c = at-settled c .settle .kept .1 .1 .1 .1 .1 .1 .1 .1 .1 .0 ∙ at-last c .read-last-files .ensures .changed .kept ∙ at-cleared c .clear-all .kept .1 .1 .1 .1 .1 .1 .1 .1 .0
+same-length-9 c =
+    at-settled c .settle .kept .1 .1 .1 .1 .1 .1 .1 .1 .1 .0 ∙ at-last c .read-last-files .ensures .changed .kept
+    ∙ at-cleared c .clear-all .kept .1 .1 .1 .1 .1 .1 .1 .1 .0
 
 same-length-10 : tie.Need-same-length-10
-same-length-10 c = at-settled c .settle .kept .1 .1 .1 .1 .1 .1 .1 .1 .1 .1 .0 ∙ at-last c .read-last-files .ensures .marked .kept ∙ at-cleared c .clear-all .kept .1 .1 .1 .1 .1 .1 .1 .1 .1 .0
+same-length-10 c =
+    at-settled c .settle .kept .1 .1 .1 .1 .1 .1 .1 .1 .1 .1 .0 ∙ at-last c .read-last-files .ensures .marked .kept
+    ∙ at-cleared c .clear-all .kept .1 .1 .1 .1 .1 .1 .1 .1 .1 .0
 
 same-length-11 : tie.Need-same-length-11
-same-length-11 c = at-settled c .settle .kept .1 .1 .1 .1 .1 .1 .1 .1 .1 .1 .1 .0 ∙ at-last c .read-last-files .ensures .excepted .kept ∙ at-cleared c .clear-all .kept .1 .1 .1 .1 .1 .1 .1 .1 .1 .1 .0
+same-length-11 c =
+    at-settled c .settle .kept .1 .1 .1 .1 .1 .1 .1 .1 .1 .1 .1 .0 ∙ at-last c .read-last-files .ensures .excepted .kept
+    ∙ at-cleared c .clear-all .kept .1 .1 .1 .1 .1 .1 .1 .1 .1 .1 .0
 
 returns : tie.Need-returns
 returns c =
