@@ -37,8 +37,9 @@ use Rattle.references.specs.declared.BlockCounts.{BlockCounts}
 use Rattle.legs.proofs.RowLaws.{block-lines}
 use Rattle.blocks.specs.declared.Checked.{Checked}
 use Rattle.blocks.specs.declared.Checked.the-variants.{Whole, Broken}
-use Rattle.blocks.specs.Whole.{BlockChecked, headWord}
-use Rattle.blocks.proofs.ServiceLaws.{head-service}
+use Rattle.blocks.specs.Whole.{BlockChecked}
+use Rattle.block_services.specs.Heads.{headWord}
+use Rattle.block_services.proofs.ServiceLaws.{head-service}
 use Rattle.blocks.proofs.WholeLaws.{fresh-service}
 use Rattle.walks.proofs.GroupLaws.{between-rest}
 use Rattle.walks.proofs.TableLaws.{rows-are, inside}

@@ -84,7 +84,7 @@ pub fn judge(
     ensures { λ r. ⌜ AmendJudged form (now (t .entry))
         (now (companies .entry)) (now (modes .entry)) (now (stations .entry)) (now (footnotes .entry)) service (now (block .entry)) r ⌝ }
 {
-    if !parts::is_one_block(block, service) {
+    if !service_lines::is_one_block(block, service) {
         return Judged::Refuse(Reason::NotOneBlock, Place::Nowhere);
     }
     let used = keys::used_rows(File::Timetbls, t);

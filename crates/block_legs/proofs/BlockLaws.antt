@@ -12,9 +12,10 @@ use Rattle.iff_rules.specs.Meaning.{mostStops}
 use Rattle.iff_rules.specs.Order.{isStop}
 use Rattle.iff_rules.specs.Legs.{covered, ofKind, stopsOf, reachOf, legs}
 use Rattle.iff_rules.specs.Rows.{blockRowsFrom, blockRows, asBlock, stopsIn, linesIn}
-use Rattle.legs.specs.Rows.{covers, onceTo}
+use Rattle.legs.specs.Rows.{covers}
+use Rattle.leg_marks.specs.Once.{onceTo}
 use Rattle.block_legs.specs.Sight.{LegibleBlock, AllMarkable, lineInRange, linesTimes}
-use Rattle.legs.proofs.MarkLaws.{once-covered}
+use Rattle.leg_marks.proofs.MarkLaws.{once-covered}
 use Rattle.legs.proofs.RowLaws.{stops-same, block-lines}
 use Rattle.block_legs.proofs.RowLaws.{ranges, counted}
 

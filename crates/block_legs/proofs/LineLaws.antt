@@ -17,7 +17,7 @@ use Rattle.records.specs.Layouts.{legible}
 use Rattle.records.proofs.FileLaws.{can-be-put}
 use Rattle.legs.specs.Rows.{times, Markable}
 use Rattle.block_legs.specs.Sight.{recordWidth, CanBePut, lineRow, lineInRange, lineTimes, linesTimes, LineMarkable, AllMarkable}
-use Rattle.legs.specs.Tally.{Tally}
+use Rattle.leg_marks.specs.Tally.{Tally}
 use Rattle.block_legs.proofs.RowLaws.{line-wide}
 
 -- the line, and what it says of all that are left

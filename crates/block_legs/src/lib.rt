@@ -9,8 +9,9 @@ ghost use Rattle.iff_rules.specs.Meaning.{mostStops};
 ghost use Rattle.iff_rules.specs.Legs.{legs, reachOf, inRange};
 ghost use Rattle.iff_rules.specs.Rows.{blockRows, asBlock};
 ghost use Rattle.records.specs.Layouts.{legible};
-ghost use Rattle.legs.specs.Rows.{namesStops, times, onceTo};
-ghost use Rattle.legs.specs.Tally.{Tally};
+ghost use Rattle.legs.specs.Rows.{namesStops, times};
+ghost use Rattle.leg_marks.specs.Once.{onceTo};
+ghost use Rattle.leg_marks.specs.Tally.{Tally};
 ghost use Rattle.block_legs.specs.Sight.{recordWidth, CanBePut, LegibleBlock, lineRow, lineInRange, linesTimes, LineMarkable, AllMarkable};
 
 // The words of a row of TIMETBLS but the last, which is the line's number in its block.
@@ -23,7 +24,7 @@ fn line_row(line: &[u8], form: iff::Form, n: u64, row: &mut [u64])
 {
     let letter = text::first_byte(line);
     let kind = records::block_record(letter);
-    records::put_words(kind, letter as u64, form, n, line, row);
+    record_lines::put_words(kind, letter as u64, form, n, line, row);
 }
 
 // A record that names a first and a last stop. The others, which are most of a block's, need no row here.
@@ -103,12 +104,12 @@ fn is_covered(block: &[u8], form: iff::Form, n: u64, kind: u64) -> bool
     requires { ⌜ AllMarkable form (now block) n kind mostStops ⌝ }
     ensures { λ r. ⌜ r ≡ onceTo (n - 1) (linesTimes form n kind (lines (now (block .entry)))) ⌝ }
 {
-    let mut marks = [0u8; legs::MARKS];
+    let mut marks = [0u8; leg_marks::MARKS];
     if !mark_lines(block, form, n, kind, &mut marks) {
         return false;
     }
-    let last_leg = legs::legs_of(n as usize);
-    legs::all_marked(&marks, last_leg)
+    let last_leg = leg_marks::legs_of(n as usize);
+    leg_marks::all_marked(&marks, last_leg)
 }
 
 fn all_three(a: bool, b: bool, c: bool) -> bool

@@ -34,9 +34,10 @@ use Rattle.quick_blocks.specs.declared.Quickly.{Quickly}
 use Rattle.quick_blocks.specs.declared.Quickly.the-variants.{Put}
 use Rattle.quick_blocks.specs.Whole.{QuickPut}
 use Rattle.block_rows.proofs.RowLaws.{rows-used, rows-count, block-keys}
-use Rattle.block_puts.specs.declared.Newness.{Newness}
+use Rattle.new_services.specs.declared.Newness.{Newness}
+use Rattle.new_services.specs.News.{Remembered}
 use Rattle.block_puts.specs.declared.BlockPut.the-variants.{Kept, Faulty}
-use Rattle.block_puts.specs.Puts.{BlockTested, BlockPlaced, BlockJudged, Triable, BlockTried, Remembered, Addable, BlockAdded}
+use Rattle.block_puts.specs.Puts.{BlockTested, BlockPlaced, BlockJudged, Triable, BlockTried, Addable, BlockAdded}
 use Rattle.block_puts.proofs.AgainLaws.{whole-says, whole-fresh, same-services}
 
 abbrev width : ℕ

@@ -31,7 +31,7 @@ use Rattle.keys.proofs.Among.{keys-there}
 use Rattle.references.specs.declared.BlockCounts.{BlockCounts}
 use Rattle.references.specs.Agree.{BlockKeysAmong}
 use Rattle.blocks.specs.declared.Checked.the-variants.{Whole}
-use Rattle.blocks.specs.Lines.{keysFrom}
+use Rattle.block_lines.specs.Lines.{keysFrom}
 use Rattle.blocks.specs.Whole.{BlockChecked}
 use Rattle.blocks.proofs.WholeLaws.{fresh-service}
 use Rattle.block_puts.specs.Puts.{newVerdict}

@@ -17,15 +17,15 @@ use Rattle.iff_rules.specs.Rows.{asBlock, blockRows, linesIn, Context}
 use Rattle.iff_rules.specs.Load.{faultUnless, blockVerdict, serviceOf}
 use Rattle.fresh_keys.specs.declared.KeyRun.{KeyRun}
 use Rattle.keys.specs.Lookup.{keysIn, keysAmong}
-use Rattle.fresh_keys.specs.Runs.{runOf, stepRun}
-use Rattle.marks.specs.Marks.{withMarks, Marked}
+use Rattle.fresh_keys.specs.Runs.{runOf}
+use Rattle.marks.specs.Marks.{Marked}
 use Rattle.references.specs.declared.BlockCounts.{BlockCounts}
 use Rattle.references.specs.Agree.{BlockKeysAmong}
 use Rattle.blocks.specs.declared.Checked.{Checked}
 use Rattle.blocks.specs.declared.Checked.the-variants.{Whole, Broken}
 use Rattle.blocks.specs.Whole.{WholeBlock, BlockChecked}
 use Rattle.block_ends.specs.Blocks.{OneBlock}
-use Rattle.block_puts.specs.declared.Newness.{Newness}
+use Rattle.new_services.specs.declared.Newness.{Newness}
 use Rattle.block_puts.specs.declared.BlockPut.{BlockPut}
 use Rattle.block_puts.specs.declared.BlockPut.the-variants.{Kept, Faulty}
 
@@ -39,11 +39,6 @@ pub record Holding (t marks : List ℕ) (run : KeyRun) (row : ℕ) : Type 0 wher
 -- SERVICES ONE AFTER THE OTHER: where block o's came before, its `#` is at fault
 abbrev pub newVerdict : List ℕ → ℕ → ℕ → Verdict
 newVerdict seen o k = faultUnless (not (has k seen)) Duplicate (At Timetbls o 1)
-
--- whether a service is new, and whether that was found out, as it is where a search is asked for
-pub record NewTold (search : Bool) (t : List ℕ) (service : ℕ) (r : Newness) : Type 0 where
-  pub exact : r .told ≡ true → r .fresh ≡ not (has service (keysIn Timetbls t))
-  pub asked : search ≡ true → r .told ≡ true
 
 -- A BLOCK THAT IS TESTED after those of the table, whichever its ordinal: if it is whole, whether its service is new says all
 abbrev pub testedAt : List ℕ → ℕ → ℕ → Checked → Verdict
@@ -89,11 +84,6 @@ pub record BlockTried (form : Form) (b was is : List ℕ) (counts : BlockCounts)
       → is ≡ take (row * rowWidth Timetbls) was ++ (joined (blockRows form (asBlock b)) ++ drop ((row + k) * rowWidth Timetbls) was)
   pub kept : (w : Reason) (j : ℕ) → r ≡ Broken w j → Beside b was is row
   pub fresh : (k n : ℕ) → r ≡ Whole k n → new .told ≡ true → has (serviceOf form (asBlock b)) (keysIn Timetbls was) ≡ false
-
--- A SERVICE THAT IS REMEMBERED, with its mark
-pub record Remembered (run : KeyRun) (was : List ℕ) (service : ℕ) (is : List ℕ) (r : KeyRun) : Type 0 where
-  pub next : r ≡ stepRun run service
-  pub marks : is ≡ withMarks was service
 
 -- A BLOCK THAT IS ADDED
 pub record Addable (b t marks : List ℕ) (run : KeyRun) (row : ℕ) : Type 0 where

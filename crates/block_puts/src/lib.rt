@@ -1,23 +1,13 @@
 // One block of TIMETBLS after others: tested with what is known of their services, and its rows put behind theirs.
-ghost use mathlib.Core.Path.{_≡_};
-ghost use mathlib.Core.Bool.{true, false};
+use new_services::Newness;
+use new_services::after_block;
+use new_services::tell_new;
 ghost use Prim.Native.Nat.{_+_, _*_, _≤_, _<_};
 ghost use lib.ListN.{length};
-ghost use Rattle.iff.specs.declared.Form.{Form};
 ghost use Rattle.iff.specs.declared.File.the-variants.{Timetbls};
 ghost use Rattle.iff.specs.Tables.{rowWidth};
 ghost use Rattle.iff_rules.specs.Rows.{linesIn, asBlock};
-ghost use Rattle.iff_rules.specs.Load.{serviceOf};
-ghost use Rattle.keys.specs.Lookup.{keysIn};
-ghost use Rattle.fresh_keys.specs.Runs.{runOf};
-ghost use Rattle.marks.specs.Marks.{slots, Marked};
-ghost use Rattle.block_puts.specs.Puts.{BlockPlaced, NewTold, BlockJudged, Triable, BlockTried, Remembered, Addable, BlockAdded};
-
-// Whether a block's service is new to those before it, and whether that was found out: else it is taken for new.
-pub struct Newness {
-    pub fresh: bool,
-    pub told: bool,
-}
+ghost use Rattle.block_puts.specs.Puts.{BlockPlaced, BlockJudged, Triable, BlockTried, Addable, BlockAdded};
 
 // What became of a block: what is remembered of the services with it, where the next block's rows go, and whether its service was told to be new; or
 // why it is refused, and at which line.
@@ -25,9 +15,6 @@ pub enum BlockPut {
     Kept(fresh_keys::KeyRun, usize, bool),
     Faulty(iff::Reason, u64),
 }
-
-// In so many rows a search takes next to no time.
-const FEW_ROWS: usize = 65536;
 
 // A block that the quick reader left, checked, and then written in the place of what that reader put there.
 fn check_then_write(
@@ -119,53 +106,6 @@ fn place_block(
     }
 }
 
-// Nothing but a search would tell of this service, and the table is long: where services come in any order, searches for each of them take far longer
-// than all the rest.
-fn is_dear(search: bool, run: fresh_keys::KeyRun, row: usize, service: u64) -> bool
-    ensures { λ r. ⌜ (search ≡ true → r ≡ false) ⌝ }
-{
-    if search {
-        return false;
-    }
-    if row < FEW_ROWS {
-        return false;
-    }
-    let with = fresh_keys::next_run(run, service);
-    !with.rises
-}
-
-// Whether a service is new to those before it, whose rows the table holds: by its marks, else by a search, unless that is too dear. With `search` it
-// is found out at any cost.
-fn tell_new(
-    search: bool,
-    run: fresh_keys::KeyRun,
-    marks: &[u8],
-    t: &[u64],
-    row: usize,
-    service: u64,
-) -> Newness
-    requires { ⌜ (run ≡ runOf (keysIn Timetbls (now t))) × Marked (now marks) (keysIn Timetbls (now t)) ⌝ }
-    ensures { λ r. ⌜ NewTold search (now (t .entry)) service r ⌝ }
-{
-    if marks::is_unmarked(marks, service) {
-        return Newness {
-            fresh: true,
-            told: true,
-        };
-    }
-    if is_dear(search, run, row, service) {
-        return Newness {
-            fresh: true,
-            told: false,
-        };
-    }
-    let fresh = fresh_keys::is_fresh(iff::File::Timetbls, run, t, service);
-    Newness {
-        fresh: fresh,
-        told: true,
-    }
-}
-
 // A block that is at fault though its service was taken for new: its fault may be another one if the service came before, so that is found out now.
 fn judge_again(
     block: &[u8],
@@ -183,8 +123,8 @@ fn judge_again(
     ensures { λ r. ⌜ BlockJudged form (now (block .entry)) counts
         (now (companies .entry)) (now (modes .entry)) (now (stations .entry)) (now (footnotes .entry)) (now (t .entry)) (now (t .exit)) row r ⌝ }
 {
-    let service = blocks::service_of(block);
-    let came = keys::names_among(iff::File::Timetbls, t, row, service);
+    let service = block_services::service_of(block);
+    let came = lookups::names_among(iff::File::Timetbls, t, row, service);
     check_then_write(
         block,
         form,
@@ -256,16 +196,6 @@ fn try_block(
     }
 }
 
-// What is remembered of the services with this block's, which is marked.
-fn after_block(run: fresh_keys::KeyRun, marks: &mut [u8], block: &[u8]) -> fresh_keys::KeyRun
-    requires { ⌜ length (now marks) ≡ slots ⌝ }
-    ensures { λ r. ⌜ ((form : Form) → Remembered run (now (marks .entry)) (serviceOf form (asBlock (now (block .entry)))) (now (marks .exit)) r) ⌝ }
-{
-    let service = blocks::service_of(block);
-    marks::mark(marks, service);
-    fresh_keys::next_run(run, service)
-}
-
 // One block: tested, and its rows put behind the `row` rows that the table holds.
 pub fn add_block(
     block: &[u8],
@@ -288,7 +218,7 @@ pub fn add_block(
     ensures { λ r. ⌜ BlockAdded form (now (block .entry)) (now (t .entry)) (now (t .exit)) (now (marks .exit)) counts
         (now (companies .entry)) (now (modes .entry)) (now (stations .entry)) (now (footnotes .entry)) row search r ⌝ }
 {
-    let service = blocks::service_of(block);
+    let service = block_services::service_of(block);
     let new = tell_new(search, run, marks, t, row, service);
     match try_block(
         block,

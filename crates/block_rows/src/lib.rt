@@ -17,7 +17,7 @@ fn fill_row(line: &[u8], form: iff::Form, k: u64, n: u64, j: u64, row: &mut [u64
 {
     let letter = text::first_byte(line);
     let kind = records::block_record(letter);
-    records::put_words(kind, letter as u64, form, n, line, row);
+    record_lines::put_words(kind, letter as u64, form, n, line, row);
     row[iff::words::LINE_NUMBER] = j;
     if letter != b'#' {
         return;
@@ -34,7 +34,7 @@ fn put_line(line: &[u8], form: iff::Form, k: u64, n: u64, j: u64, t: &mut [u64],
 {
     let mut row = [0u64; tables::BLOCK_WIDTH];
     fill_row(line, form, k, n, j, &mut row);
-    tables::put_row(t, tables::BLOCK_WIDTH, i, &row);
+    table_writes::put_row(t, tables::BLOCK_WIDTH, i, &row);
 }
 
 // The rows of a block of `k` lines and `n` stops that was found whole, from row `start` on. What stands before and behind them is kept.

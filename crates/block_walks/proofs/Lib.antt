@@ -1,2 +1,2 @@
-pub mod ReadLaws
+pub mod AddLaws
 pub mod RepeatLaws

@@ -1,11 +1,8 @@
-// The blocks of TIMETBLS one after the other: the first fault with its place, a service that came twice among them; or how many rows and services there are.
+// The blocks of TIMETBLS one after the other: the first fault with its place, or how many rows and services there are; and whether each was told to name a
+// new service.
 ghost use mathlib.Core.Path.{_≡_};
-ghost use mathlib.Core.Bool.{true, false, _&&_};
-ghost use Prim.Native.Nat.{_+_, _≤_, _<_};
-ghost use lib.ListN.{length};
-ghost use Rattle.iff.specs.declared.File.the-variants.{Timetbls};
-ghost use Rattle.iff.specs.Tables.{rowWidth};
-ghost use Rattle.block_walks.specs.Blocks.{BlocksReady, firstAlone, BlocksWalked, BlocksAdded};
+ghost use mathlib.Core.Bool.{_&&_};
+ghost use Rattle.block_walks.specs.Blocks.{BlocksReady, BlocksWalked};
 
 // What became of all of them: whether the services rise, how many rows the table has with them, and how many services; or the first fault.
 pub enum BlocksPut {
@@ -33,7 +30,7 @@ fn both(a: bool, b: bool) -> bool
 }
 
 // The blocks from `from` on, the first of them block 1.
-fn add_blocks(
+pub fn add_blocks(
     text: &[u8],
     from: usize,
     form: iff::Form,
@@ -100,77 +97,5 @@ fn add_blocks(
         row: row,
         done: done,
         sure: sure,
-    }
-}
-
-// What stands behind the first row is cleared: the table is as it was before the first block.
-fn clear_blocks(t: &mut [u64])
-    requires { ⌜ rowWidth Timetbls ≤ length (now t) ⌝ }
-    ensures { λ _. ⌜ now (t .exit) ≡ firstAlone (now (t .entry)) ⌝ }
-{
-    let behind = tables::BLOCK_WIDTH;
-    tables::clear(&mut t[behind..]);
-}
-
-// The blocks, with the first service that came twice found out at the end, where not each was told to be new. Its block was put, so nothing else is
-// wrong with it, and no block before it is at fault. Where that cannot be told, all is read again with a search for each.
-pub fn walk_blocks(
-    text: &[u8],
-    from: usize,
-    form: iff::Form,
-    marks: &mut [u8],
-    t: &mut [u64],
-    counts: references::BlockCounts,
-    companies: &[u64],
-    modes: &[u64],
-    stations: &[u64],
-    footnotes: &[u64],
-    places: &[u32],
-) -> BlocksPut
-    requires { ⌜ BlocksReady (now text) from (now t) (now marks) ⌝ }
-    ensures { λ r. ⌜ BlocksAdded form (now (text .entry)) from counts
-        (now (companies .entry)) (now (modes .entry)) (now (stations .entry)) (now (footnotes .entry)) (now (t .entry)) (now (t .exit)) r ⌝ }
-{
-    let walk = add_blocks(
-        text,
-        from,
-        form,
-        marks,
-        t,
-        counts,
-        companies,
-        modes,
-        stations,
-        footnotes,
-        places,
-        false,
-    );
-    if walk.sure {
-        return walk.put;
-    }
-    match repeats::first_repeat(t, walk.row, walk.done) {
-        repeats::Repeats::Never => walk.put,
-        repeats::Repeats::First(j) => {
-            let place = iff::Place::At(iff::File::Timetbls, j + 1, 1);
-            BlocksPut::Refused(iff::Reason::Duplicate, place)
-        }
-        repeats::Repeats::Untold => {
-            clear_blocks(t);
-            let again = add_blocks(
-                text,
-                from,
-                form,
-                marks,
-                t,
-                counts,
-                companies,
-                modes,
-                stations,
-                footnotes,
-                places,
-                true,
-            );
-            again.put
-        }
     }
 }

@@ -21,12 +21,12 @@ use Rattle.iff_rules.specs.Unique.{freshKey}
 use Rattle.iff_rules.specs.Legs.{one}
 use Rattle.iff_rules.specs.Load.{blockTest, blockMoves, blockNext}
 use Rattle.records.specs.Layouts.{legible}
-use Rattle.blocks.specs.Lines.{blockTestWith, stepOf, blockStep}
+use Rattle.block_lines.specs.Lines.{blockTestWith, stepOf, blockStep}
 use Rattle.blocks.specs.Drive.{onward, drive, drivenAt}
-use Rattle.blocks.specs.declared.LineStep.{LineStep}
-use Rattle.blocks.specs.declared.LineStep.the-variants.{Leads, Refused}
+use Rattle.block_lines.specs.declared.LineStep.{LineStep}
+use Rattle.block_lines.specs.declared.LineStep.the-variants.{Leads, Refused}
 use Rattle.blocks.specs.declared.Driven.the-variants.{Through}
-use Rattle.blocks.proofs.TestLaws.{SameKeys, isStart, test-first, test-later, LedOn, passed}
+use Rattle.block_lines.proofs.TestLaws.{SameKeys, isStart, test-first, test-later, LedOn, passed}
 
 -- the definition's equations, to rewrite with while it stays shut
 pub drive-nil : (c : Context) (fresh : Bool) (st : InBlock) (done : ℕ) → drive c fresh st done [] ≡ Through st done

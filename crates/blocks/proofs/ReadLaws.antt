@@ -14,10 +14,10 @@ use Rattle.iff_rules.specs.Meaning.{mostStops}
 use Rattle.text.specs.declared.LineSpan.{LineSpan}
 use Rattle.text.specs.Spans.{spanLine, LineAt}
 use Rattle.text.proofs.LineLaws.{lines-end}
-use Rattle.blocks.specs.Lines.{blockStep}
+use Rattle.block_lines.specs.Lines.{blockStep}
 use Rattle.blocks.specs.Drive.{driveAt, turnTo, Standing, TurnsTo}
-use Rattle.blocks.specs.declared.LineStep.{LineStep}
-use Rattle.blocks.specs.declared.LineStep.the-variants.{Leads, Refused}
+use Rattle.block_lines.specs.declared.LineStep.{LineStep}
+use Rattle.block_lines.specs.declared.LineStep.the-variants.{Leads, Refused}
 use Rattle.blocks.specs.declared.Turned.{Turned}
 use Rattle.blocks.specs.declared.Turned.the-variants.{On, Off}
 use Rattle.blocks.specs.declared.Driven.the-variants.{Through, Held}

@@ -25,14 +25,14 @@ use Rattle.references.specs.Agree.{BlockKeysAmong}
 use Rattle.records.proofs.FileLaws.{row-tag}
 use Rattle.block_legs.specs.Sight.{LegibleBlock}
 use Rattle.legs.proofs.RowLaws.{block-lines}
-use Rattle.blocks.specs.Lines.{keysFrom}
+use Rattle.block_lines.specs.Lines.{keysFrom}
 use Rattle.blocks.specs.Drive.{drive, driveAt, drivenAt}
 use Rattle.blocks.specs.Whole.{LinesRead, lastTests, BlockChecked}
 use Rattle.blocks.specs.declared.Checked.{Checked}
 use Rattle.blocks.specs.declared.Checked.the-variants.{Whole, Broken}
 use Rattle.blocks.specs.declared.Driven.{Driven}
 use Rattle.blocks.specs.declared.Driven.the-variants.{Through, Held}
-use Rattle.blocks.proofs.TestLaws.{SameKeys}
+use Rattle.block_lines.proofs.TestLaws.{SameKeys}
 use Rattle.blocks.proofs.DriveLaws.{drive-says, came-through}
 
 -- the lent tables' own context agrees with every other of its form

@@ -12,9 +12,9 @@ use Rattle.iff.specs.declared.Verdict.the-variants.{Fine, Fault}
 use Rattle.iff.specs.declared.InBlock.{InBlock}
 use Rattle.iff_rules.specs.Rows.{Context}
 use Rattle.iff_rules.specs.Meaning.{mostStops}
-use Rattle.blocks.specs.Lines.{blockStep}
-use Rattle.blocks.specs.declared.LineStep.{LineStep}
-use Rattle.blocks.specs.declared.LineStep.the-variants.{Leads, Refused}
+use Rattle.block_lines.specs.Lines.{blockStep}
+use Rattle.block_lines.specs.declared.LineStep.{LineStep}
+use Rattle.block_lines.specs.declared.LineStep.the-variants.{Leads, Refused}
 use Rattle.blocks.specs.declared.Turned.{Turned}
 use Rattle.blocks.specs.declared.Turned.the-variants.{On, Off}
 use Rattle.blocks.specs.declared.Driven.{Driven}

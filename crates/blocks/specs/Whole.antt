@@ -7,7 +7,6 @@ use lib.ListN.{length}
 use Rattle.iff.specs.Lists.{all}
 use Rattle.iff.specs.Refusals.{after}
 use Rattle.iff.specs.Lines.{lines}
-use Rattle.iff.specs.Words.{named}
 use Rattle.iff.specs.declared.File.the-variants.{Timetbls}
 use Rattle.iff.specs.declared.Reason.the-variants.{Order, Legs}
 use Rattle.iff.specs.declared.Place.the-variants.{At}
@@ -62,7 +61,3 @@ pub record BlockChecked (form : Form) (t : List ℕ) (fresh : Bool) (counts : Bl
       → fresh ≡ freshKey Timetbls seen (rowOf form Timetbls (asBlock t .top)) → (o : ℕ)
       → checkedAt o r ≡ blockVerdict c seen o (asBlock t)
   pub whole : (k n : ℕ) → r ≡ Whole k n → WholeBlock form t k n
-
--- the first word after the tag of a line's row: of a `#`, its service
-unfoldable pub headWord : Form → List ℕ → ℕ
-headWord form body = named (rowOf form Timetbls (record { body = body; ended = true }))

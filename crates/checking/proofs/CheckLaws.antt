@@ -12,7 +12,7 @@ use Rattle.iff.specs.declared.Place.{Place}
 use Rattle.iff.specs.declared.Verdict.{Verdict}
 use Rattle.iff.specs.declared.Verdict.the-variants.{Fine, Fault}
 use Rattle.iff.specs.declared.Answer.{Answer}
-use Rattle.reports.specs.Texts.{Appended}
+use Rattle.text_puts.specs.Texts.{Appended}
 use Rattle.reports.specs.Report.{reportLine}
 use Rattle.reports.specs.declared.Report.{Report}
 use Rattle.reports.specs.declared.Report.the-variants.{Larger, Answered}

@@ -9,7 +9,7 @@ use Rattle.iff.specs.declared.Verdict.the-variants.{Fine, Fault}
 use Rattle.iff.specs.declared.Answer.{Answer}
 use Rattle.iff_rules.specs.Load.{loadAnswer}
 use Rattle.sizes.specs.Sizes.{lengthsWithin, lengthsOf}
-use Rattle.reports.specs.Texts.{Appended}
+use Rattle.text_puts.specs.Texts.{Appended}
 use Rattle.reports.specs.Report.{reportLine}
 use Rattle.reports.specs.declared.Report.{Report}
 use Rattle.reports.specs.declared.Report.the-variants.{Larger, Answered}

@@ -9,7 +9,7 @@ use reports::Report;
 ghost use mathlib.Core.Path.{_≡_};
 ghost use Rattle.iff.specs.Files.{eleven};
 ghost use Rattle.iff_rules.specs.Load.{loadAnswer};
-ghost use Rattle.reports.specs.Texts.{Appended, Front};
+ghost use Rattle.text_puts.specs.Texts.{Appended, Front};
 ghost use Rattle.reports.specs.Report.{reportLine};
 ghost use Rattle.checking.specs.Check.{roomFor64, checked, FolderChecked};
 

@@ -7,11 +7,11 @@ fn clear5(t1: &mut [u64], t2: &mut [u64], t3: &mut [u64], t4: &mut [u64], t5: &m
         (now (t1 .entry)) (now (t2 .entry)) (now (t3 .entry)) (now (t4 .entry)) (now (t5 .entry))
         (now (t1 .exit)) (now (t2 .exit)) (now (t3 .exit)) (now (t4 .exit)) (now (t5 .exit)) ⌝ }
 {
-    tables::clear(t1);
-    tables::clear(t2);
-    tables::clear(t3);
-    tables::clear(t4);
-    tables::clear(t5);
+    table_writes::clear(t1);
+    table_writes::clear(t2);
+    table_writes::clear(t3);
+    table_writes::clear(t4);
+    table_writes::clear(t5);
 }
 
 fn clear6(
@@ -26,12 +26,12 @@ fn clear6(
         (now (t1 .entry)) (now (t2 .entry)) (now (t3 .entry)) (now (t4 .entry)) (now (t5 .entry)) (now (t6 .entry))
         (now (t1 .exit)) (now (t2 .exit)) (now (t3 .exit)) (now (t4 .exit)) (now (t5 .exit)) (now (t6 .exit)) ⌝ }
 {
-    tables::clear(t1);
-    tables::clear(t2);
-    tables::clear(t3);
-    tables::clear(t4);
-    tables::clear(t5);
-    tables::clear(t6);
+    table_writes::clear(t1);
+    table_writes::clear(t2);
+    table_writes::clear(t3);
+    table_writes::clear(t4);
+    table_writes::clear(t5);
+    table_writes::clear(t6);
 }
 
 pub fn clear_all(

@@ -1,1 +1,1 @@
-pub mod RowLaws
+mod RowLaws

@@ -14,7 +14,9 @@ use Rattle.iff_desk.specs.declared.Change.{Change}
 use Rattle.numbers.specs.Numbers.{answerWords}
 use Rattle.question_numbers.specs.Numbers.{partWords, linesWords, stopTimeWords, stopTimeMinutes}
 use Rattle.change_numbers.specs.Numbers.{changeWords, changeGap}
-use Rattle.parts.specs.Bounds.{partOf, Inside, namePart, textNow, partNow}
+use Rattle.parts.specs.Bounds.{partOf, Inside}
+use Rattle.station_names.specs.Names.{namePart}
+use Rattle.service_lines.specs.Bounds.{textNow, partNow}
 
 -- A LOAD, as `load::load` promises it, with its answer in numbers
 pub record LoadedInNumbers (F : PerFile (List ℕ)) (R : PerFile ℕ) (words : List ℕ) (T : PerFile (List ℕ)) : Type 0 where

@@ -126,7 +126,7 @@ pub extern "C" fn calyxcabin_amend(
 pub extern "C" fn calyxcabin_name(stations: &[u8], short: u64, answer: &mut [u64; 3])
     ensures { λ _. ⌜ NamedInNumbers (now (stations .entry)) short (now (answer .exit)) ⌝ }
 {
-    let part = parts::name_part(stations, short);
+    let part = station_names::name_part(stations, short);
     let test = part.test;
     *answer = question_numbers::part_words(test, part.from, part.to);
 }
@@ -141,11 +141,11 @@ pub extern "C" fn calyxcabin_lines_now(
 )
     ensures { λ _. ⌜ LinesInNumbers (now (text .entry)) (now (block .entry)) service (now (answer .exit)) ⌝ }
 {
-    if parts::is_one_block(block, service) {
+    if service_lines::is_one_block(block, service) {
         *answer = question_numbers::lines_words(Test::Passes, true, 0, block.len());
         return;
     }
-    let part = parts::lines_part(text, service);
+    let part = service_lines::lines_part(text, service);
     let test = part.test;
     *answer = question_numbers::lines_words(test, false, part.from, part.to);
 }
@@ -170,7 +170,7 @@ pub extern "C" fn calyxcabin_is_sound(
         (now (stations .entry)) (now (footnote .entry)) (now (timetbls .entry)) (now (changes .entry)) (now (xfootnote .entry))
         (now (xchanges .entry)))) ⌝ }
 {
-    let sound = sound::is_sound(
+    let sound = sound_tables::is_sound(
         delivery,
         company,
         country,

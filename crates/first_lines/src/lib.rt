@@ -27,7 +27,7 @@ fn days_right(line: &[u8]) -> bool
     ensures { λ r. ⌜ r ≡ firstMeaning (firstRowOf Delivery true (lineOf (now (line .entry)) true)) ⌝ }
 {
     let mut row = [0u64; 6];
-    records::put_words(
+    record_lines::put_words(
         Record::FirstRecord,
         iff::tags::AT,
         ANY_FORM,
@@ -45,13 +45,13 @@ pub fn first_line(line: &[u8], ended: bool, header: &[u8]) -> Test
     if text::first_byte(line) != b'@' {
         return Test::Fails(Reason::Order);
     }
-    if !records::is_laid(Record::FirstRecord, ANY_FORM, line, ended) {
+    if !record_lines::is_laid(Record::FirstRecord, ANY_FORM, line, ended) {
         return Test::Fails(Reason::Layout);
     }
     if !text::same_bytes(line, header) {
         return Test::Fails(Reason::FirstLine);
     }
-    if !records::is_readable(Record::FirstRecord, ANY_FORM, line) {
+    if !record_lines::is_readable(Record::FirstRecord, ANY_FORM, line) {
         return Test::Fails(Reason::Value);
     }
     if !days_right(line) {
@@ -72,7 +72,7 @@ pub fn put_first(file: File, rises: bool, line: &[u8], row: &mut [u64])
     requires { ⌜ FirstRow file (now line) (now row) ⌝ }
     ensures { λ _. ⌜ now (row .exit) ≡ firstRowOf file rises (lineOf (now (line .entry)) true) ⌝ }
 {
-    records::put_words(Record::FirstRecord, iff::tags::AT, ANY_FORM, 0, line, row);
+    record_lines::put_words(Record::FirstRecord, iff::tags::AT, ANY_FORM, 0, line, row);
     row[iff::words::RISES] = flag_of(rises);
     match file {
         File::Delivery => {}

@@ -12,8 +12,8 @@ use mir.Syntax.{w32}
 use mir.Val.{SFits, toZ, ofZ}
 use mir.Facts.{toZ-ofZ}
 use Rattle.iff.specs.declared.File.{File}
-use Rattle.reports.specs.Report.{pathOf}
-use Rattle.reports.specs.Texts.{Appended}
+use Rattle.name_puts.specs.Paths.{pathOf}
+use Rattle.text_puts.specs.Texts.{Appended}
 use Rattle.folders.specs.Reads.{Opened, ReadFrom, Given, ReadAs}
 
 -- a descriptor as a function keeps it

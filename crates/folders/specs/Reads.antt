@@ -7,7 +7,7 @@ use mathlib.Core.List.{List, []}
 use lib.IntN.{ℤ, pos, negsuc}
 use lib.ListN.{take}
 use Rattle.iff.specs.declared.File.{File}
-use Rattle.reports.specs.Report.{pathOf}
+use Rattle.name_puts.specs.Paths.{pathOf}
 
 -- the descriptor is what opening the path for reading answered
 pub data Opened (path : List ℕ) (fd : ℤ) : Type 0 where

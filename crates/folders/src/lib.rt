@@ -36,7 +36,7 @@ pub fn read_named(file: File, folder: &[u8], buf: &mut [u8]) -> usize
     ensures { λ r. ⌜ ReadAs (now (folder .entry)) file (length (now (buf .entry))) (take r (now (buf .exit))) ⌝ }
 {
     let mut path = io::buffer();
-    let n = reports::put_path(folder, file, &mut path);
+    let n = name_puts::put_path(folder, file, &mut path);
     let fd = open_at(&path[..n]);
     read_opened(fd, buf)
 }

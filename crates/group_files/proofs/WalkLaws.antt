@@ -44,8 +44,9 @@ use Rattle.reading.specs.declared.RowsRead.the-variants.{AllRead, Stopped}
 use Rattle.group_marks.specs.Numbers.{Remembered, withRow}
 use Rattle.group_marks.proofs.NumberLaws.{none-remembered, opens, key-more, rest-more}
 use Rattle.group_lines.specs.Tests.{joins}
-use Rattle.group_lines.specs.Facts.{openRows, openFrom, Beside, opening, groupFor, putVerdict, lineDue, PutThere, LineDone}
-use Rattle.group_lines.specs.declared.Open.{Open}
+use Rattle.open_groups.specs.Open.{openRows, openFrom, Beside, opening, groupFor}
+use Rattle.group_lines.specs.Facts.{putVerdict, lineDue, PutThere, LineDone}
+use Rattle.open_groups.specs.declared.Open.{Open}
 use Rattle.group_lines.specs.declared.LinePut.{LinePut}
 use Rattle.group_lines.specs.declared.LinePut.the-variants.{Put, Early, Refused}
 use Rattle.group_files.specs.Flat.{flat}

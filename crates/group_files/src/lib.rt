@@ -23,14 +23,6 @@ ghost use Rattle.references.specs.Agree.{GroupKeys, GroupKeysAmong};
 ghost use Rattle.reading.specs.Reading.{Ready, RowsDone, FileRead};
 ghost use Rattle.group_files.specs.Begun.{firstIn, namesOthers, GroupsBegun};
 
-// The number of a line that so many lines come before.
-fn line_number(before: usize) -> u64
-    requires { ⌜ before + 1 < 2 ^ 64 ⌝ }
-    ensures { λ r. ⌜ r ≡ before + 1 ⌝ }
-{
-    (before as u64) + 1
-}
-
 // The lines from `from` on, the first of which is line 2 of the file. The table holds the first line's row, and theirs come behind it. Each row is
 // marked, where there are marks.
 fn add_lines(
@@ -57,7 +49,7 @@ fn add_lines(
 {
     let mut at = from;
     let mut read: usize = 0;
-    let mut group = group_lines::opening(fresh_keys::no_keys());
+    let mut group = open_groups::opening(fresh_keys::no_keys());
     while at < text.len() {
         let s = text::line_at(text, at);
         let end = s.end;
@@ -84,11 +76,14 @@ fn add_lines(
             LinePut::Early => {
                 return RowsRead::Stopped(
                     Reason::Order,
-                    Place::At(File::Groups(file), 0, line_number(read)),
+                    Place::At(File::Groups(file), 0, reading::line_number(read)),
                 );
             }
             LinePut::Refused(r) => {
-                return RowsRead::Stopped(r, Place::At(File::Groups(file), 0, line_number(rows)));
+                return RowsRead::Stopped(
+                    r,
+                    Place::At(File::Groups(file), 0, reading::line_number(rows)),
+                );
             }
             LinePut::Put(g) => {
                 group = g;
@@ -98,10 +93,10 @@ fn add_lines(
         }
     }
     let stand = group.stand;
-    if !order::may_end(file, stand) {
+    if !group_order::may_end(file, stand) {
         return RowsRead::Stopped(
             Reason::Order,
-            Place::At(File::Groups(file), 0, line_number(read)),
+            Place::At(File::Groups(file), 0, reading::line_number(read)),
         );
     }
     let run = group.run;
@@ -369,7 +364,7 @@ pub fn read_group_file(
                     ) {
                         RowsRead::Stopped(r, p) => Verdict::Fault(r, p),
                         RowsRead::AllRead(rises) => {
-                            heads::set_rises(t, rises);
+                            head_words::set_rises(t, rises);
                             Verdict::Fine
                         }
                     }

@@ -1,38 +1,34 @@
--- A line that is put to its group: its tests, its row in the table, and where the groups stand after it. Assumes nothing.
-use Prim.Native.Nat.{ℕ, suc, _+_, _-_}
+-- A line that is put to its group: its row in the table, and where the groups stand after it. Assumes nothing.
+use Prim.Native.Nat.{ℕ, suc, _-_}
 use mathlib.Core.Path.{_≡_, refl, ap, sym, _∙_}
 use mathlib.Core.List.{List, []}
 use mathlib.Core.Bool.{true, false}
 use native.Mathlib.Omega.{arith}
 use lib.ListN.{length, drop}
-use Rattle.iff.specs.Refusals.{orTest, verdictAt, after}
+use Rattle.iff.specs.Refusals.{verdictAt, after}
 use Rattle.iff.specs.Lines.{Line, isHash}
 use Rattle.iff.specs.Tables.{Row, tag, rowWidth, putRow}
 use Rattle.iff.specs.Words.{named}
 use Rattle.iff.specs.declared.GroupFile.{GroupFile}
 use Rattle.iff.specs.declared.File.the-variants.{Groups}
 use Rattle.iff.specs.declared.Form.{Form}
-use Rattle.iff.specs.declared.GroupStand.{GroupStand}
 use Rattle.iff.specs.declared.Reason.{Reason}
 use Rattle.iff.specs.declared.Place.the-variants.{At}
 use Rattle.iff.specs.declared.Test.{Test}
 use Rattle.iff.specs.declared.Test.the-variants.{Passes, Fails}
-use Rattle.iff_rules.specs.Order.{groupMoves, groupStand, mayEnd}
+use Rattle.iff_rules.specs.Order.{groupStand, mayEnd}
 use Rattle.iff_rules.specs.Rows.{rowOf, Context}
-use Rattle.iff_rules.specs.Load.{groupTest}
 use Rattle.keys.specs.Lookup.{keysIn}
 use Rattle.keys.specs.Blocks.{blockOfRows}
-use Rattle.fresh_keys.specs.declared.KeyRun.{KeyRun}
 use Rattle.group_marks.specs.Numbers.{withRow}
 use Rattle.group_marks.proofs.NumberLaws.{opens}
-use Rattle.group_lines.specs.Tests.{groupRowTest, lineVerdict}
-use Rattle.group_lines.specs.Facts.{openRows, openFrom, Beside, opening, groupFor, runAfter, openAfter}
-use Rattle.group_lines.specs.Facts.{RowMade, RowTested, addDue, lineDue, LineDone}
-use Rattle.group_lines.specs.declared.Open.{Open}
+use Rattle.group_lines.specs.Tests.{lineVerdict}
+use Rattle.open_groups.specs.Open.{openRows, openFrom, Beside, opening, groupFor, openAfter}
+use Rattle.group_tests.specs.Facts.{RowTested}
+use Rattle.group_lines.specs.Facts.{addDue, lineDue, LineDone}
+use Rattle.open_groups.specs.declared.Open.{Open}
 use Rattle.group_lines.specs.declared.LinePut.{LinePut}
 use Rattle.group_lines.specs.declared.LinePut.the-variants.{Put, Early, Refused}
-use Rattle.group_lines.proofs.TestLaws.{group-split}
-use Rattle.group_lines.proofs.LineLaws.{fails-not}
 
 -- what was not put is nowhere
 early-not : (g : Open) → Early ≡ Put g → ⊥
@@ -42,38 +38,6 @@ refused-not : (r : Reason) (g : Open) → Refused r ≡ Put g → ⊥
 refused-not r g e = let z : _≡_ {A = ℕ} 0 1 = cc in omega arith
 
 module _ (f : GroupFile) (form : Form) (rows : ℕ) (g : Open) (Agree : Context → Type 0) (l : Line) (t marks : List ℕ) (b : Beside f rows g t marks) where
-  abbrev seen : List ℕ
-  seen = keysIn (Groups f) t
-
-  module _ (was is : List ℕ) (p : Test) (m : RowMade f form (g .stand) l was is p) where
-    tests-are : (c : Context) → c .form ≡ form
-        → groupTest c f seen (openRows f t rows (g .size)) l
-        ≡ orTest p (groupRowTest c f seen (openRows f t rows (g .size)) (rowOf form (Groups f) l))
-    tests-are c d = rw (group-split c f seen (openRows f t rows (g .size)) l, d, ← b .stands, ← m .test)
-
-    -- the line alone is refused
-    pub tested-no : (r : Reason) → p ≡ Fails r → RowTested f form rows g Agree l t was is (Fails r)
-    tested-no r q =
-        record {
-          test = λ c d a. sym (tests-are c d ∙ rw q);
-          row = λ n. absurd (fails-not r n);
-          used = λ n. absurd (fails-not r n);
-          kept = m .kept;
-        }
-
-    -- or not, and its row is tested
-    pub tested : p ≡ Passes → (r : Test)
-        → ((c : Context) → Agree c → r ≡ groupRowTest c f seen (openRows f t rows (g .size)) is)
-        → RowTested f form rows g Agree l t was is r
-    tested q r e =
-        let s : is ≡ rowOf form (Groups f) l = m .row q in
-        record {
-          test = λ c d a. sym (tests-are c d ∙ rw (q, ← s) (sym (e c a)));
-          row = λ n. s;
-          used = λ n. m .used q;
-          kept = m .kept;
-        }
-
   -- the table after it
   module _ (was is : List ℕ) (p : Test) (m : RowTested f form rows g Agree l t was is p) where
     pub put-not : (r : Reason) → p ≡ Fails r → LineDone f form rows g Agree (addDue f rows g l t) l t t marks marks (Refused r)
@@ -103,11 +67,6 @@ module _ (f : GroupFile) (form : Form) (rows : ℕ) (g : Open) (Agree : Context 
               });
           kept = k;
         }
-
--- the group after it: where it stands, and its keys
-pub one-more : (g : Open) (t key : ℕ) (s : GroupStand) (run : KeyRun) → s ≡ groupMoves (g .stand) → run ≡ runAfter (g .run) t key
-    → record { size = g .size + 1; stand = s; run = run } ≡ openAfter g t key
-one-more g t key s run e k = rw (e, k)
 
 -- no rows are open where a group begins
 open-none : (f : GroupFile) (t : List ℕ) (rows : ℕ) → openRows f t rows 0 ≡ []

@@ -1,7 +1,5 @@
-// The first lines of files, read: what the readers of the lines after them share, and the form of those lines.
-use iff::Edition;
+// The first lines of files, read: what the readers of the lines after them share.
 use iff::File;
-use iff::Form;
 use iff::Place;
 use iff::Reason;
 use iff::Test;
@@ -10,10 +8,9 @@ use reading::Begin;
 ghost use mathlib.Core.Path.{_≡_};
 ghost use mathlib.Core.Bool.{true};
 ghost use Prim.Native.Nat.{_<_};
-ghost use lib.ListN.{length, set};
+ghost use lib.ListN.{length};
 ghost use Rattle.iff.specs.Refusals.{fine};
 ghost use Rattle.iff.specs.declared.File.the-variants.{Delivery};
-ghost use Rattle.iff_rules.specs.Rows.{flag, formOf};
 ghost use Rattle.reading.specs.Reading.{headLine, Ready, FirstRead, DeliveryRead};
 
 // A file's first line: tested, and its row put into the empty table. Until the rows after it are read, their keys are taken to rise, as none do.
@@ -34,14 +31,6 @@ pub fn begin_file(file: File, text: &[u8], header: &[u8], t: &mut [u64]) -> Begi
             Begin::Rest(next)
         }
     }
-}
-
-// Whether the keys of a file rise, once they are all read: in the row of its first line.
-pub fn set_rises(t: &mut [u64], rises: bool)
-    requires { ⌜ 5 < length (now t) ⌝ }
-    ensures { λ _. ⌜ now (t .exit) ≡ set (now (t .entry)) 5 (flag rises) ⌝ }
-{
-    t[iff::words::RISES] = first_lines::flag_of(rises);
 }
 
 // DELIVERY, after a verdict on what came before it: its first line, which is as itself, and no line more.
@@ -70,8 +59,6 @@ pub fn read_delivery(v: Verdict, text: &[u8], t: &mut [u64]) -> Verdict
     }
 }
 
-// WHAT DELIVERY'S FIRST LINE SAYS OF THE OTHER FILES
-
 // The body of a text's first line; nothing where there is none.
 pub fn first_body<'a>(text: &'a [u8]) -> &'a [u8]
     ensures { λ r. ⌜ now r ≡ headLine (now (text .entry)) .body ⌝ }
@@ -82,16 +69,4 @@ pub fn first_body<'a>(text: &'a [u8]) -> &'a [u8]
     let s = text::line_at(text, 0);
     let end = s.end;
     &text[0..end]
-}
-
-// The form of a delivery's lines, by DELIVERY's row: its days of validity, and the edition.
-pub fn form_of(delivery: &[u64]) -> Form
-    ensures { λ r. ⌜ r ≡ formOf (now (delivery .entry)) ⌝ }
-{
-    let first = tables::word_or_zero(delivery, iff::words::FIRST_DAY);
-    let last = tables::word_or_zero(delivery, iff::words::LAST_DAY);
-    Form {
-        days: calendar::span(first, last) as usize,
-        edition: Edition::Iff424,
-    }
 }

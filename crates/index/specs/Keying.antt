@@ -1,38 +1,23 @@
 -- The rows of a table gone through: what is left of them decides what is told of them all.
-use Prim.Native.Nat.{ℕ, suc, _+_, _*_, _≤_, _<_}
+use Prim.Native.Nat.{ℕ, suc, _<_}
 use mathlib.Core.Path.{_≡_}
 use mathlib.Core.List.{List}
-use mathlib.Core.Bool.{Bool, true, false, not}
+use mathlib.Core.Bool.{Bool, false, not}
 use lib.ListN.{length}
 use Rattle.iff.specs.declared.File.{File}
 use Rattle.iff.specs.Lists.{has}
 use Rattle.iff.specs.Refusals.{after}
-use Rattle.iff.specs.Tables.{rowWidth}
 use Rattle.iff_desk.specs.Sound.{distinct, passes, followedBy}
 use Rattle.fresh_keys.specs.declared.KeyRun.{KeyRun}
 use Rattle.keys.specs.Lookup.{keysAmong}
 use Rattle.fresh_keys.specs.Runs.{stepRun, runOf}
 use Rattle.index.specs.declared.Next.{Next}
 use Rattle.index.specs.declared.Next.the-variants.{Came, Goes}
-use Rattle.index.specs.Slots.{namesAt, keysBetween, Index}
+use Rattle.slots.specs.Slots.{keysBetween, Index}
 
 -- some keys are new after others
 abbrev pub allNew : List ℕ → List ℕ → Bool
 allNew seen ks = passes (λ seen k. not (has k seen)) followedBy seen ks
-
--- row i, the run of the keys before it, and their rows in the index; row 0 is the first line's, and names nothing
-pub record AtRow (f : File) (t : List ℕ) (run : KeyRun) (i : ℕ) (ps : List ℕ) : Type 0 where
-  pub some : 0 < i
-  pub room : i * rowWidth f + rowWidth f ≤ length t
-  pub first : namesAt f t 0 ≡ false
-  pub runs : run ≡ runOf (keysBetween f t 0 i)
-  pub index : Index f t i (length ps) ps
-
--- a key of row i is tested, and put into the index where it is new
-pub record KeyPut (f : File) (t : List ℕ) (i key : ℕ) (ps qs : List ℕ) (r : Bool) : Type 0 where
-  pub wide : length qs ≡ length ps
-  pub new : r ≡ not (has key (keysBetween f t 0 i))
-  pub index : r ≡ true → Index f t (suc i) (length ps) qs
 
 -- after the rows before row i: the keys of all rows are those of the rows from i on, after the others
 pub record Told (f : File) (used : ℕ) (t : List ℕ) (run : KeyRun) (i : ℕ) : Type 0 where

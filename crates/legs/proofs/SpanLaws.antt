@@ -12,10 +12,10 @@ use Rattle.iff.specs.Lists.{any}
 use Rattle.iff.specs.Tables.{Row, tag}
 use Rattle.iff.specs.Words.{named, trainFirst, trainLast, recordFirst, recordLast}
 use Rattle.iff_rules.specs.Legs.{firstStop, lastStop, reachOf, inRange, ranged, rangedBy}
+use Rattle.leg_marks.specs.Tally.{Tally}
+use Rattle.leg_marks.proofs.MarkLaws.{within}
 use Rattle.legs.specs.declared.Span.{Span}
 use Rattle.legs.specs.Rows.{covers, namesStops, times, SpanOf, Markable}
-use Rattle.legs.specs.Tally.{Tally}
-use Rattle.legs.proofs.MarkLaws.{within}
 
 -- WHERE FIRST AND LAST STAND
 pub span-percent : (r : Row) → tag r ≡ percent → SpanOf r (record { first = trainFirst r; last = trainLast r })

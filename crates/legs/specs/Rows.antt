@@ -1,8 +1,8 @@
 -- What the test of legs sees of rows: the records that name stops, and how often a leg lies in one of some kind.
-use Prim.Native.Nat.{ℕ, zero, suc, _≤_}
+use Prim.Native.Nat.{ℕ, _≤_}
 use mathlib.Core.Path.{_≡_}
 use mathlib.Core.List.{[], _∷_}
-use mathlib.Core.Bool.{Bool, true, _&&_, cond}
+use mathlib.Core.Bool.{Bool, true, cond}
 use lib.Dec.{eqb}
 use lib.ListN.{length}
 use Rattle.iff.specs.Bytes.{percent, dash, ampersand, asterisk}
@@ -22,11 +22,6 @@ namesStops x = has x (percent ∷ dash ∷ ampersand ∷ asterisk ∷ [])
 -- how often leg k lies in a record, as one of kind x: once or not at all
 unfoldable pub times : ℕ → ℕ → Row → ℕ
 times x k r = cond (eqb (tag r) x) (one (lies k r)) 0
-
--- each of the legs 1 to m is counted once
-unfoldable pub onceTo : ℕ → (ℕ → ℕ) → Bool
-onceTo zero count = true
-onceTo (suc m) count = eqb (count (suc m)) 1 && onceTo m count
 
 -- what a span is of a record's row
 pub record SpanOf (r : Row) (s : Span) : Type 0 where

@@ -1,12 +1,10 @@
 // A load: the eleven files tested and read in order, and their rows left in the eleven tables. A refused load leaves every table zero.
 use iff::Answer;
-use iff::GroupFile;
-use iff::RowFile;
 ghost use lib.ListN.{length};
 ghost use Rattle.iff.specs.Files.{eleven};
 ghost use Rattle.iff_laws.specs.Outcomes.{Loaded};
 
-// For every file and every table. Where a file names nothing in the others, what is lent to its reader is not looked at.
+// For every file and every table.
 pub fn load(
     delivery: &[u8],
     company: &[u8],
@@ -81,135 +79,47 @@ pub fn load(
         t_xfootnote,
         t_xchanges,
     );
-    let v1 = heads::read_delivery(v0, delivery, t_delivery);
     let header = heads::first_body(delivery);
-    let form = heads::form_of(t_delivery);
-    let v2 = row_files::read_row_file(
-        RowFile::Company,
+    let first = first_files::read_first_files(
+        v0,
+        header,
+        delivery,
+        company,
+        country,
+        trnsmode,
+        timezone,
+        stations,
+        footnote,
+        t_delivery,
+        t_company,
+        t_country,
+        t_trnsmode,
+        t_timezone,
+        t_stations,
+        t_footnote,
+    );
+    let v1 = first.verdict;
+    let form = first.form;
+    let last = last_files::read_last_files(
         v1,
         form,
-        company,
         header,
-        t_company,
-        t_country,
-        t_timezone,
-    );
-    let v3 = references::company_test(v2, t_delivery, t_company);
-    let v4 = row_files::read_row_file(
-        RowFile::Country,
-        v3,
-        form,
-        country,
-        header,
-        t_country,
-        t_stations,
-        t_timezone,
-    );
-    let v5 = row_files::read_row_file(
-        RowFile::Trnsmode,
-        v4,
-        form,
-        trnsmode,
-        header,
-        t_trnsmode,
-        t_country,
-        t_timezone,
-    );
-    let v6 = group_files::read_group_file(
-        GroupFile::Timezone,
-        v5,
-        form,
-        timezone,
-        header,
-        t_timezone,
-        t_company,
-        t_trnsmode,
-        t_stations,
-        t_timetbls,
-        t_xfootnote,
-        0,
-    );
-    let v7 = row_files::read_row_file(
-        RowFile::Stations,
-        v6,
-        form,
-        stations,
-        header,
-        t_stations,
-        t_country,
-        t_timezone,
-    );
-    let v8 = group_files::read_group_file(
-        GroupFile::Footnote,
-        v7,
-        form,
-        footnote,
-        header,
-        t_footnote,
-        t_company,
-        t_trnsmode,
-        t_stations,
-        t_timetbls,
-        t_xfootnote,
-        0,
-    );
-    let blocks = timetbls::read_timetbls(
-        v8,
-        form,
         timetbls,
-        header,
-        t_timetbls,
-        t_company,
-        t_trnsmode,
-        t_stations,
-        t_footnote,
-    );
-    let v9 = blocks.verdict;
-    let service_rows = blocks.rows;
-    let v10 = group_files::read_group_file(
-        GroupFile::Changes,
-        v9,
-        form,
         changes,
-        header,
-        t_changes,
-        t_company,
-        t_trnsmode,
-        t_stations,
-        t_timetbls,
-        t_xfootnote,
-        service_rows,
-    );
-    let v11 = group_files::read_group_file(
-        GroupFile::Xfootnote,
-        v10,
-        form,
         xfootnote,
-        header,
-        t_xfootnote,
-        t_company,
-        t_trnsmode,
-        t_stations,
-        t_timetbls,
-        t_footnote,
-        service_rows,
-    );
-    let v12 = group_files::read_group_file(
-        GroupFile::Xchanges,
-        v11,
-        form,
         xchanges,
-        header,
+        t_timetbls,
+        t_changes,
+        t_xfootnote,
         t_xchanges,
         t_company,
         t_trnsmode,
         t_stations,
-        t_timetbls,
-        t_xfootnote,
-        service_rows,
+        t_footnote,
     );
+    let v2 = last.verdict;
     clearing::settle(
-        v12,
+        v2,
         t_delivery,
         t_company,
         t_country,
@@ -222,5 +132,5 @@ pub fn load(
         t_xfootnote,
         t_xchanges,
     );
-    answers::answer_of(v12, form.days, blocks.services)
+    answers::answer_of(v2, form.days, last.services)
 }

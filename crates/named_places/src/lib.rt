@@ -47,7 +47,13 @@ fn ask_missing(
 ) -> bool
     ensures { λ _. ⌜ length (now (places .exit)) ≡ length (now (places .entry)) ⌝ }
 {
-    if let RowOf::Row(_) = keys::found_by_place(File::Timetbls, services, used, places, service) {
+    if let RowOf::Row(_) = key_places::found_by_place(
+        File::Timetbls,
+        services,
+        used,
+        places,
+        service,
+    ) {
         return so_far;
     }
     places::ask(places, service);

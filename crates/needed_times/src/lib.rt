@@ -196,7 +196,7 @@ pub fn by_needed(
         → r ≡ verdictOn R gap (rowsFound (now (timetbls .entry)) a) (rowsFound (now (timetbls .entry)) b) (a .station) from to)
         ⌝ }
 {
-    let pair = exceptions::pair_at(
+    let pair = pairs::pair_at(
         changes,
         counts.changes,
         places,

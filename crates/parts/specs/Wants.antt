@@ -2,9 +2,9 @@
 use Prim.Native.Nat.{ℕ, _+_, _≤_}
 use mathlib.Core.Path.{_≡_}
 use mathlib.Core.List.{List}
-use mathlib.Core.Bool.{Bool, _&&_}
+use mathlib.Core.Bool.{Bool}
 use Rattle.iff.specs.Lines.{Line, isHash}
-use Rattle.iff_desk.specs.Parts.{isStation, isHead, inner}
+use Rattle.iff_desk.specs.Parts.{isStation, isHead}
 use Rattle.iff_desk.specs.declared.Offset.{Offset}
 use Rattle.iff_desk.specs.declared.Offset.the-variants.{From, NotFound}
 use Rattle.parts.specs.declared.Want.{Want}
@@ -34,7 +34,3 @@ Within w from n NotFound = Unit
 pub record Sought (place : Offset) (w : Want) (from n : ℕ) (r : Offset) : Type 0 where
   pub is : r ≡ place
   pub within : Within w from n r
-
--- a line that may follow a block's first: ended, and beginning neither `#` nor `@`
-unfoldable pub follows : Line → Bool
-follows l = l .ended && inner l

@@ -1,4 +1,4 @@
-// The rows of keys put into slots, as a hint for lookups (`keys::find_at`): the keys of a table, or those services alone that a file names.
+// The rows of keys put into slots, as a hint for lookups (`lookups::find_at`): the keys of a table, or those services alone that a file names.
 ghost use mathlib.Core.Path.{_≡_};
 ghost use Prim.Native.Nat.{_<_};
 ghost use lib.ListN.{length};

@@ -17,7 +17,7 @@ use Rattle.text.proofs.LineLaws.{lines-end, lines-step}
 use Rattle.tables.proofs.Put.{length-put}
 use Rattle.blocks.specs.Drive.{driveAt, Standing}
 use Rattle.blocks.specs.declared.Turned.the-variants.{On}
-use Rattle.blocks.specs.declared.LineStep.the-variants.{Leads}
+use Rattle.block_lines.specs.declared.LineStep.the-variants.{Leads}
 use Rattle.blocks.proofs.ReadLaws.{turns-at, Reading, starts, goes-on, ends}
 use Rattle.block_rows.proofs.RowLaws.{block-row-length}
 use Rattle.block_rows.proofs.WriteLaws.{putRows}

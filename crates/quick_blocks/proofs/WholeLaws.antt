@@ -21,7 +21,7 @@ use Rattle.tables.proofs.Rows.{Used}
 use Rattle.references.specs.declared.BlockCounts.{BlockCounts}
 use Rattle.legs.proofs.RowLaws.{block-lines, stops-same}
 use Rattle.row_legs.specs.Blocks.{BlockOfStops}
-use Rattle.blocks.specs.Lines.{keysFrom}
+use Rattle.block_lines.specs.Lines.{keysFrom}
 use Rattle.blocks.specs.Drive.{driveAt, Standing}
 use Rattle.blocks.specs.Whole.{LinesRead, lastTests, BlockChecked}
 use Rattle.blocks.specs.declared.Checked.{Checked}

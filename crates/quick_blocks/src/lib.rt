@@ -8,7 +8,7 @@ ghost use lib.ListN.{length};
 ghost use Rattle.iff.specs.Tables.{rowWidth};
 ghost use Rattle.iff.specs.declared.File.the-variants.{Timetbls};
 ghost use Rattle.iff_rules.specs.Rows.{linesIn, asBlock};
-ghost use Rattle.blocks.specs.Lines.{keysFrom};
+ghost use Rattle.block_lines.specs.Lines.{keysFrom};
 ghost use Rattle.row_legs.specs.Blocks.{BlockOfStops};
 ghost use Rattle.quick_blocks.specs.Drive.{Drivable, Drove};
 ghost use Rattle.quick_blocks.specs.Whole.{WholeSeen, QuickPut};

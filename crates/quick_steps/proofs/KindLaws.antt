@@ -24,10 +24,10 @@ use Rattle.iff_rules.specs.References.{metInBlock}
 use Rattle.keys.specs.Lookup.{keysAmong}
 use Rattle.references.specs.declared.BlockCounts.{BlockCounts}
 use Rattle.references.specs.Agree.{BlockKeysAmong}
-use Rattle.quick_records.specs.declared.Words.{Words}
-use Rattle.quick_records.specs.Told.{Told, Tested, Seen}
-use Rattle.quick_records.proofs.SeenLaws.{seen-service, seen-train, seen-validity, seen-transport, seen-attribute, seen-greater, seen-dot, seen-less}
-use Rattle.quick_records.proofs.SeenLaws.{seen-plus, seen-passed, seen-platform}
+use Rattle.quick_words.specs.declared.Words.{Words}
+use Rattle.quick_words.specs.Told.{Told, Tested, Seen}
+use Rattle.quick_words.proofs.SeenLaws.{seen-service, seen-train, seen-validity, seen-transport, seen-attribute, seen-greater, seen-dot, seen-less}
+use Rattle.quick_words.proofs.SeenLaws.{seen-plus, seen-passed, seen-platform}
 use Rattle.quick_steps.specs.Steps.{Passing}
 use Rattle.quick_steps.proofs.LineLaws.{passing}
 

@@ -27,11 +27,11 @@ use Rattle.text.proofs.PictureLaws.{and-left, and-right}
 use Rattle.records.specs.Layouts.{legible}
 use Rattle.references.specs.declared.BlockCounts.{BlockCounts}
 use Rattle.references.specs.Agree.{BlockKeysAmong}
-use Rattle.blocks.specs.Lines.{keysFrom, recordTest, blockStep}
-use Rattle.blocks.proofs.StepLaws.{keys-agree, row-passes, let-through}
+use Rattle.block_lines.specs.Lines.{keysFrom, recordTest, blockStep}
+use Rattle.block_lines.proofs.StepLaws.{keys-agree, row-passes, let-through}
 use Rattle.quick_lines.specs.Pictures.{columnsAt, lineHere}
-use Rattle.quick_records.specs.declared.Words.{Words}
-use Rattle.quick_records.specs.Told.{Seen}
+use Rattle.quick_words.specs.declared.Words.{Words}
+use Rattle.quick_words.specs.Told.{Seen}
 use Rattle.quick_steps.specs.declared.LinePut.{LinePut}
 use Rattle.quick_steps.specs.declared.LinePut.the-variants.{Next, Unsure}
 use Rattle.quick_steps.specs.Steps.{w, Passing, WordsPut, Stepped, LineTurn}

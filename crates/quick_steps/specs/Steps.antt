@@ -15,11 +15,11 @@ use Rattle.iff_rules.specs.Rows.{blockRow, Context}
 use Rattle.text.specs.declared.LineSpan.{LineSpan}
 use Rattle.text.specs.Spans.{spanLine, LineAt}
 use Rattle.references.specs.declared.BlockCounts.{BlockCounts}
-use Rattle.blocks.specs.Lines.{keysFrom, recordTest, blockStep}
-use Rattle.blocks.specs.declared.LineStep.the-variants.{Leads}
+use Rattle.block_lines.specs.Lines.{keysFrom, recordTest, blockStep}
+use Rattle.block_lines.specs.declared.LineStep.the-variants.{Leads}
 use Rattle.quick_lines.specs.Pictures.{lineHere}
-use Rattle.quick_records.specs.declared.Words.{Words}
-use Rattle.quick_records.specs.Told.{Seen}
+use Rattle.quick_words.specs.declared.Words.{Words}
+use Rattle.quick_words.specs.Told.{Seen}
 use Rattle.quick_steps.specs.declared.LinePut.{LinePut}
 use Rattle.quick_steps.specs.declared.LinePut.the-variants.{Next, Unsure}
 

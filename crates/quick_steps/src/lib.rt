@@ -9,7 +9,7 @@ ghost use Rattle.iff.specs.declared.Next.the-variants.{Goes};
 ghost use Rattle.iff_rules.specs.Meaning.{mostStops};
 ghost use Rattle.iff_rules.specs.Order.{isStop, goes};
 ghost use Rattle.iff_rules.specs.Legs.{one};
-ghost use Rattle.blocks.specs.Lines.{keysFrom};
+ghost use Rattle.block_lines.specs.Lines.{keysFrom};
 ghost use Rattle.quick_steps.specs.Places.{placeInBlock, goesFrom};
 ghost use Rattle.quick_steps.specs.Steps.{Passing, WordsPut, LineTurn};
 
@@ -96,7 +96,7 @@ fn tested_words(
     stations: &[u64],
     footnotes: &[u64],
     places: &[u32],
-) -> quick_records::Words
+) -> quick_words::Words
     requires { ⌜ (at ≤ length (now block)) × (letter ≡ getD (now block) at 0) ⌝ }
     ensures { λ r. ⌜ (0 < r .width → Passing form counts (now (companies .entry)) (now (modes .entry)) (now (stations .entry)) (now (footnotes .entry))
         (now (block .entry)) at letter n k stops r) ⌝ }
@@ -104,16 +104,16 @@ fn tested_words(
     match letter {
         b'#' => quick_records::service_head(block, at, n, k),
         b'%' => quick_records::train_number(block, at, n, counts.companies, companies, places),
-        b'-' => quick_records::validity(block, at, n, counts.footnotes, footnotes, places),
+        b'-' => quick_footnotes::validity(block, at, n, counts.footnotes, footnotes, places),
         b'&' => quick_records::transport(block, at, n, counts.modes, modes, places),
-        b'*' => quick_records::attribute(block, at, n, counts.footnotes, footnotes, places),
-        b'+' => quick_records::interval(block, at, n, stops, counts.stations, stations, places),
-        b';' => quick_records::passed(block, at, n, counts.stations, stations, places),
+        b'*' => quick_footnotes::attribute(block, at, n, counts.footnotes, footnotes, places),
+        b'+' => quick_stops::interval(block, at, n, stops, counts.stations, stations, places),
+        b';' => quick_stops::passed(block, at, n, counts.stations, stations, places),
         _ => {
             if !order::is_stop(letter as u64) {
-                return quick_records::untold();
+                return quick_words::untold();
             }
-            quick_records::plain_stop(block, at, n, stops, counts.stations, stations, places)
+            quick_stops::plain_stop(block, at, n, stops, counts.stations, stations, places)
         }
     }
 }
@@ -121,7 +121,7 @@ fn tested_words(
 // Words that were told, of a line at `at` that leads to `to` after some stops: put as row `i`.
 fn put_words(
     letter: u8,
-    w: quick_records::Words,
+    w: quick_words::Words,
     at: usize,
     to: iff::Stand,
     stops: u64,
@@ -137,7 +137,7 @@ fn put_words(
         return LinePut::Unsure;
     }
     let row = [letter as u64, w.one, w.two, w.three, w.four, 0, number];
-    tables::put_row(t, tables::BLOCK_WIDTH, i, &row);
+    table_writes::put_row(t, tables::BLOCK_WIDTH, i, &row);
     let next = at + w.width + 2;
     let after = stops + stop_for(letter);
     LinePut::Next(
@@ -230,6 +230,6 @@ pub fn put_platform(
     let iff::Next::Goes(to) = order::goes(stand, letter) else {
         return LinePut::Unsure;
     };
-    let w = quick_records::platform(block, at, n, counts.footnotes, footnotes, places);
+    let w = quick_footnotes::platform(block, at, n, counts.footnotes, footnotes, places);
     put_words(letter, w, at, to, stops, number, t, i)
 }

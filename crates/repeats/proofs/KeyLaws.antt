@@ -11,9 +11,10 @@ use lib.Seq.{getD-take, length-take-le}
 use Rattle.iff.specs.Lists.{any, has}
 use Rattle.iff_desk.specs.Sound.{distinct, passes, followedBy}
 use Rattle.repeats.specs.Repeats.{FirstRepeat, Told}
-use Rattle.repeats.specs.Classes.{classOf, CameBy, Asking}
+use Rattle.key_classes.specs.Classes.{classOf, CameBy}
+use Rattle.repeats.specs.Asking.{Asking}
 use Rattle.repeats.specs.declared.Repeats.the-variants.{Never, First, Untold}
-use Rattle.repeats.proofs.ClassLaws.{class-below}
+use Rattle.key_classes.proofs.ClassLaws.{class-below}
 
 -- a key that came is among the first ones, and one that did not is not
 came-has : (ks : List ℕ) (n at key : ℕ) → at < n → at < length ks → getD ks at 0 ≡ key → has key (take n ks) ≡ true

@@ -1,4 +1,2 @@
-pub mod SetLaws
-pub mod ClassLaws
+pub mod AskingLaws
 pub mod KeyLaws
-pub mod RowLaws

@@ -1,3 +1,2 @@
 pub mod Repeats
-pub mod Sets
-pub mod Classes
+pub mod Asking

@@ -1,18 +1,17 @@
 -- The check program's second line: "the first larger file makes the second line `larger` and its name"; "Fields: days, services";
 -- "number, file, ordinal, line".
-use Prim.Native.Nat.{ℕ, _≤_}
+use Prim.Native.Nat.{ℕ}
 use mathlib.Core.List.{List, [], _∷_, _++_}
 use Rattle.iff.specs.Bytes.{bytes, blank, lf}
 use Rattle.iff.specs.Files.{fileName}
 use Rattle.iff.specs.Refusals.{number, ordinal, lineAt}
-use Rattle.iff.specs.declared.File.{File}
 use Rattle.iff.specs.declared.Place.{Place}
 use Rattle.iff.specs.declared.Place.the-variants.{Nowhere, At}
 use Rattle.iff.specs.declared.Answer.{Answer}
 use Rattle.iff.specs.declared.Answer.the-variants.{Accepted, Refused}
+use Rattle.text_puts.specs.Texts.{decimal}
 use Rattle.reports.specs.declared.Report.{Report}
 use Rattle.reports.specs.declared.Report.the-variants.{Larger, Answered}
-use Rattle.reports.specs.Texts.{decimal}
 
 -- the file of a place; 0 where there is none
 abbrev pub placeName : Place → List ℕ
@@ -34,7 +33,3 @@ answerLine (Refused r p) = bytes "refused" ++ (field (number r) ++ whereText p)
 abbrev pub reportLine : Report → List ℕ
 reportLine (Larger p) = bytes "larger" ++ ((blank ∷ placeName p) ++ (lf ∷ []))
 reportLine (Answered a) = answerLine a
-
--- the path of a file in a folder, whose own path is empty or ends in `/`
-abbrev pub pathOf : List ℕ → File → List ℕ
-pathOf folder f = folder ++ fileName f

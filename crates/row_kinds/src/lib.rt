@@ -62,7 +62,7 @@ pub fn is_train(
     if !rest {
         return false;
     }
-    keys::names_at(
+    lookups::names_at(
         File::Rows(RowFile::Company),
         companies,
         used,
@@ -88,7 +88,7 @@ pub fn is_validity(
     if !rest {
         return false;
     }
-    keys::names_at(
+    lookups::names_at(
         File::Groups(GroupFile::Footnote),
         footnotes,
         used,
@@ -108,7 +108,7 @@ pub fn is_transport(mode: u64, rest: bool, used: usize, modes: &[u64], places: &
     if !rest {
         return false;
     }
-    keys::names_at(File::Rows(RowFile::Trnsmode), modes, used, places, mode)
+    lookups::names_at(File::Rows(RowFile::Trnsmode), modes, used, places, mode)
 }
 
 // `*`: an attribute, whose code is not looked up, and a footnote.
@@ -132,7 +132,7 @@ pub fn is_attribute(
     if !rest {
         return false;
     }
-    keys::names_at(
+    lookups::names_at(
         File::Groups(GroupFile::Footnote),
         footnotes,
         used,
@@ -170,7 +170,7 @@ pub fn is_interval(
     if !means {
         return false;
     }
-    keys::names_at(
+    lookups::names_at(
         File::Rows(RowFile::Stations),
         stations,
         used,
@@ -190,7 +190,7 @@ pub fn is_passed(station: u64, rest: bool, used: usize, stations: &[u64], places
     if !rest {
         return false;
     }
-    keys::names_at(
+    lookups::names_at(
         File::Rows(RowFile::Stations),
         stations,
         used,
@@ -216,7 +216,7 @@ pub fn is_platform(
     if !rest {
         return false;
     }
-    keys::names_at(
+    lookups::names_at(
         File::Groups(GroupFile::Footnote),
         footnotes,
         used,
@@ -250,7 +250,7 @@ pub fn is_plain_stop(
     if !means {
         return false;
     }
-    keys::names_at(
+    lookups::names_at(
         File::Rows(RowFile::Stations),
         stations,
         used,

@@ -12,8 +12,9 @@ use Rattle.iff.specs.Lists.{all, any, total}
 use Rattle.iff.specs.Tables.{Row, tag}
 use Rattle.iff_rules.specs.Legs.{firstStop, lastStop, reachOf, inRange, covered, ofKind, stopsOf, legs}
 use Rattle.legs.specs.declared.Span.{Span}
-use Rattle.legs.specs.Rows.{covers, onceTo, SpanOf}
-use Rattle.legs.proofs.MarkLaws.{within, within-yes, within-not, once-covered}
+use Rattle.legs.specs.Rows.{covers, SpanOf}
+use Rattle.leg_marks.specs.Once.{onceTo}
+use Rattle.leg_marks.proofs.MarkLaws.{within, within-yes, within-not, once-covered}
 use Rattle.legs.proofs.RowLaws.{kind-times}
 use Rattle.legs.proofs.SpanLaws.{Ranged, range-of, times-same, times-other}
 use Rattle.linked_legs.specs.Links.{stopAfter, linked, allLinked}

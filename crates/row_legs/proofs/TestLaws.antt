@@ -8,8 +8,9 @@ use Rattle.iff.specs.Lists.{all}
 use Rattle.iff.specs.Tables.{Row}
 use Rattle.iff_rules.specs.Meaning.{mostStops}
 use Rattle.iff_rules.specs.Legs.{reachOf, inRange, covered, ofKind, legs}
-use Rattle.legs.specs.Rows.{covers, onceTo}
-use Rattle.legs.proofs.MarkLaws.{once-covered}
+use Rattle.legs.specs.Rows.{covers}
+use Rattle.leg_marks.specs.Once.{onceTo}
+use Rattle.leg_marks.proofs.MarkLaws.{once-covered}
 use Rattle.legs.proofs.RowLaws.{kind-times}
 use Rattle.linked_legs.specs.Links.{blockBetween}
 use Rattle.row_legs.specs.Blocks.{BlockOfStops, RangedBlock, rowsTimes}

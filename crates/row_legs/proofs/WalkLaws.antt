@@ -13,7 +13,7 @@ use Rattle.iff.specs.declared.File.the-variants.{Timetbls}
 use Rattle.iff_rules.specs.Legs.{reachOf, inRange}
 use Rattle.tables.proofs.Rows.{row-inside}
 use Rattle.legs.specs.Rows.{times, Markable}
-use Rattle.legs.specs.Tally.{Tally}
+use Rattle.leg_marks.specs.Tally.{Tally}
 use Rattle.linked_legs.specs.Links.{blockBetween}
 use Rattle.linked_legs.proofs.RowLaws.{between-next, between-none, part-row}
 use Rattle.row_legs.specs.Blocks.{RowMarkable, RangedBlock, rowsTimes}

@@ -11,7 +11,7 @@ ghost use Rattle.iff_rules.specs.Meaning.{mostStops};
 ghost use Rattle.iff_rules.specs.Legs.{legs, reachOf, inRange, covered, ofKind};
 ghost use Rattle.keys.specs.Blocks.{rowsBetween};
 ghost use Rattle.legs.specs.Rows.{times};
-ghost use Rattle.legs.specs.Tally.{Tally};
+ghost use Rattle.leg_marks.specs.Tally.{Tally};
 ghost use Rattle.linked_legs.specs.Links.{blockBetween};
 ghost use Rattle.row_legs.specs.Blocks.{BlockOfStops, RowMarkable, RangedBlock, rowsTimes};
 
@@ -64,12 +64,12 @@ fn are_marked_once(t: &[u64], from: usize, to: usize, n: u64, kind: u64) -> bool
     requires { ⌜ RangedBlock (now t) from to n kind mostStops ⌝ }
     ensures { λ r. ⌜ r ≡ covered (n - 1) (ofKind kind (blockBetween (now (t .entry)) from to)) ⌝ }
 {
-    let mut marks = [0u8; legs::MARKS];
+    let mut marks = [0u8; leg_marks::MARKS];
     if !mark_rows(t, from, to, n, kind, &mut marks) {
         return false;
     }
-    let last_leg = legs::legs_of(n as usize);
-    legs::all_marked(&marks, last_leg)
+    let last_leg = leg_marks::legs_of(n as usize);
+    leg_marks::all_marked(&marks, last_leg)
 }
 
 // THE TEST

@@ -6,7 +6,7 @@ use native.Mathlib.Nat.{add-zero, sub-zero}
 use native.Mathlib.Omega.{arith}
 use lib.ListN.{length, getD, take, drop, set, length-drop, length-set, take-append-drop}
 use lib.Seq.{paste, paste-zero, drop-paste, getD-take, getD-drop, take-suc, drop-cons, append-snoc, set-at, take-at, length-take-le}
-use Rattle.tables.proofs.Copy.{copy-next}
+use Rattle.table_writes.proofs.Copy.{copy-next}
 use Rattle.row_moves.specs.Moves.{copied}
 
 -- two lists that are the same up to m, or from m on, have the same words there

@@ -37,7 +37,7 @@ pub fn move_rest(t: &mut [u64], from: usize, end: usize, to: usize)
     if to < from {
         copy_to_front(t, from, to, count);
         let last = to + count;
-        tables::clear(&mut t[last..end]);
+        table_writes::clear(&mut t[last..end]);
         return;
     }
     if from < to {

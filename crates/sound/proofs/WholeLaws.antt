@@ -26,7 +26,7 @@ use Rattle.keys.proofs.Among.{keys-counted}
 use Rattle.references.specs.Agree.{StationKeys, GroupKeysAmong, BlockKeysAmong}
 use Rattle.sound.specs.declared.UsedRows.{UsedRows}
 use Rattle.walks.proofs.TableLaws.{tag-first}
-use Rattle.sound_blocks.proofs.UsedLaws.{room-ends, rows-end, row-used}
+use Rattle.sound_row_walks.proofs.UsedLaws.{room-ends, rows-end, row-used}
 use Rattle.sound_frames.specs.Frames.{framedRows, framed}
 use Rattle.sound_behind.specs.Behind.{behind}
 use Rattle.sound.specs.Whole.{Counted, there, allThere, butTimetbls, allFramed, allBehind, timetblsSound}

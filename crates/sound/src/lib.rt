@@ -476,7 +476,7 @@ fn are_all_sound(
     ) {
         return false;
     }
-    keys::names_at(
+    lookups::names_at(
         File::Rows(RowFile::Company),
         company,
         used.company,
@@ -536,40 +536,4 @@ pub fn is_sound_by(
         first,
         places,
     )
-}
-
-// Soundness.
-pub fn is_sound(
-    delivery: &[u64],
-    company: &[u64],
-    country: &[u64],
-    trnsmode: &[u64],
-    timezone: &[u64],
-    stations: &[u64],
-    footnote: &[u64],
-    timetbls: &[u64],
-    changes: &[u64],
-    xfootnote: &[u64],
-    xchanges: &[u64],
-) -> bool
-    ensures { λ r. ⌜ r ≡ areSound (eleven (now (delivery .entry)) (now (company .entry)) (now (country .entry)) (now (trnsmode .entry))
-        (now (timezone .entry)) (now (stations .entry)) (now (footnote .entry)) (now (timetbls .entry)) (now (changes .entry))
-        (now (xfootnote .entry)) (now (xchanges .entry))) ⌝ }
-{
-    let mut places = [0u32; SLOTS];
-    let told = is_sound_by(
-        delivery,
-        company,
-        country,
-        trnsmode,
-        timezone,
-        stations,
-        footnote,
-        timetbls,
-        changes,
-        xfootnote,
-        xchanges,
-        &mut places,
-    );
-    told
 }

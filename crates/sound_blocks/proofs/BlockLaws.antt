@@ -23,9 +23,10 @@ use Rattle.references.specs.Agree.{BlockKeysAmong}
 use Rattle.row_legs.specs.Blocks.{BlockOfStops}
 use Rattle.walks.specs.Heads.{NextHead}
 use Rattle.walks.proofs.GroupLaws.{between-none, between-first, group-at}
-use Rattle.sound_blocks.specs.Walk.{BlockAt, rowsOf, groupOf, isThrough, BlockWalked, isSound, BlockTold}
-use Rattle.sound_blocks.specs.declared.Walked.{Walked}
-use Rattle.sound_blocks.specs.declared.Walked.the-variants.{Through, Unsound}
+use Rattle.sound_row_walks.specs.Walk.{BlockAt, rowsOf, isThrough, BlockWalked}
+use Rattle.sound_row_walks.specs.declared.Walked.{Walked}
+use Rattle.sound_row_walks.specs.declared.Walked.the-variants.{Through, Unsound}
+use Rattle.sound_blocks.specs.Blocks.{groupOf, isSound, BlockTold}
 use Rattle.sound_blocks.specs.declared.Tested.{Tested}
 use Rattle.sound_blocks.specs.declared.Tested.the-variants as tested
 use Rattle.sound_block_rows.proofs.TestLaws.{one-false}

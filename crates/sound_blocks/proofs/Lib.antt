@@ -1,3 +1,1 @@
-pub mod UsedLaws
-pub mod WalkLaws
 pub mod BlockLaws

@@ -1,18 +1,17 @@
 -- The tests of one row of a group, by what the code found. Assumes nothing.
-use Prim.Native.Nat.{ℕ, suc, _+_, _-_, _*_, _≤_}
+use Prim.Native.Nat.{ℕ, _+_, _-_, _*_, _≤_}
 use mathlib.Core.Path.{_≡_, refl, ap, sym, _∙_, subst}
 use mathlib.Core.List.{List, [], _∷_}
-use mathlib.Core.Bool.{Bool, true, false, _&&_, not, cond, and-true, false≢true}
+use mathlib.Core.Bool.{Bool, true, false, _&&_, and-true, false≢true}
 use native.Mathlib.Omega.{arith}
-use borrow.Author.Tests.{eq-eqb, ne-eqb}
+use borrow.Author.Tests.{ne-eqb}
 use lib.Dec.{eqb}
 use lib.ListN.{length, take, drop, length-drop}
 use lib.Seq.{length-take-le}
 use Rattle.iff.specs.Bytes.{hash}
-use Rattle.iff.specs.Lists.{any, allOf}
+use Rattle.iff.specs.Lists.{allOf}
 use Rattle.iff.specs.Refusals.{after}
-use Rattle.iff.specs.Columns.{recordFields, recordOf, fieldsOf}
-use Rattle.iff.specs.Values.{wordCount}
+use Rattle.iff.specs.Columns.{fieldsOf}
 use Rattle.iff.specs.Tables.{Row, tag, rowAt, rowWidth}
 use Rattle.iff.specs.declared.GroupFile.{GroupFile}
 use Rattle.iff.specs.declared.GroupFile.the-variants.{Timezone, Footnote, Changes, Xfootnote, Xchanges}
@@ -20,65 +19,21 @@ use Rattle.iff.specs.declared.File.the-variants.{Groups}
 use Rattle.iff.specs.declared.GroupStand.{GroupStand}
 use Rattle.iff.specs.declared.GroupStand.the-variants.{Opening, Opened, Going}
 use Rattle.iff.specs.declared.Form.{Form}
-use Rattle.iff.specs.declared.Record.{Record}
-use Rattle.iff.specs.declared.Record.the-variants.{ZoneHead, ZonePeriod, FootnoteHead, FootnoteVector, ChangeHead, ChangePair, ChangeException}
 use Rattle.iff_rules.specs.Order.{mayFollow, groupMoves, groupStand}
 use Rattle.iff_rules.specs.Rows.{Context}
 use Rattle.iff_rules.specs.Meaning.{groupMeaning}
-use Rattle.iff_rules.specs.Unique.{clash, freshKey, freshInGroup}
+use Rattle.iff_rules.specs.Unique.{freshInGroup}
 use Rattle.iff_rules.specs.References.{metInGroup}
 use Rattle.iff_desk.specs.Sound.{shaped, followedBy, soundGroupRow}
 use Rattle.keys.specs.Blocks.{rowsBetween}
-use Rattle.fresh_keys.proofs.Runs.{and-left, and-right}
 use Rattle.references.specs.Agree.{GroupKeysAmong}
 use Rattle.references.specs.declared.GroupCounts.{GroupCounts}
 use Rattle.group_marks.specs.Numbers.{Remembered, withRow}
 use Rattle.group_marks.proofs.NumberLaws.{none-remembered, rest-more}
-use Rattle.walks.proofs.GroupLaws.{part-is-row, between-rest}
-use Rattle.sound_group_rows.specs.Told.{RowTold, rightAlone}
-
--- a row has a word for every field that leaves one, and for its tag: of a `#` and of the records behind it
-module _ (form : Form) where
-  abbrev words-of : Record → ℕ
-  words-of r = suc (wordCount (recordFields form r))
-
-  either : (b : Bool) (r s : Record) (n : ℕ) → words-of r ≤ n → words-of s ≤ n → words-of (cond b r s) ≤ n
-  either true r s n p q = p
-  either false r s n p q = q
-
-  pub roomy : (f : GroupFile) (x : ℕ) → words-of (recordOf (Groups f) x) ≤ rowWidth (Groups f)
-  unfolding recordOf recordFields
-  roomy Timezone x = either (eqb x hash) ZoneHead ZonePeriod 6 (omega arith) (omega arith)
-  roomy Footnote x = either (eqb x hash) FootnoteHead FootnoteVector 14 (omega arith) (omega arith)
-  roomy Changes x = either (eqb x hash) ChangeHead ChangePair 6 (omega arith) (omega arith)
-  roomy Xfootnote x = either (eqb x hash) FootnoteHead FootnoteVector 14 (omega arith) (omega arith)
-  roomy Xchanges x = either (eqb x hash) ChangeHead ChangeException 7 (omega arith) (omega arith)
-
-  pub fits-row : (f : GroupFile) (x : ℕ) (rec : Record) (n : ℕ) → rec ≡ recordOf (Groups f) x → n ≡ rowWidth (Groups f) → words-of rec ≤ n
-  fits-row f x rec n e h = rw (e, h) (roomy f x)
-
--- the tests of a row alone, in turn: its verdict by what each of them says, as far as they are made
-module _ (form : Form) (f : GroupFile) (stand : GroupStand) (r : Row) (rec : Record) (e : rec ≡ recordOf (Groups f) (tag r)) where
-  pub alone-by : (o s m q : Bool) → mayFollow f stand (tag r) ≡ o → shaped (recordFields form rec) r ≡ s → groupMeaning f r ≡ m → q ≡ (o && (s && m))
-      → q ≡ rightAlone form f stand r
-  unfolding rightAlone fieldsOf
-  alone-by o s m q g h i j = rw (← e, g, h, i) j
-
--- CLASHES: a `#` has none, another row with none of those behind the `#`
-module _ (f : GroupFile) (r : Row) where
-  pub fresh-head : (earlier : List Row) → tag r ≡ hash → true ≡ freshInGroup f earlier r
-  unfolding freshInGroup
-  fresh-head earlier h = rw (eq-eqb (tag r) hash h)
-
-  pub fresh-other : (w : ℕ) (t : List ℕ) (from to : ℕ) (b : Bool) → (tag r ≡ hash → ⊥)
-      → b ≡ not (any (clash f r) (rowsBetween w t (from + 1) to))
-      → b ≡ freshInGroup f (drop 1 (rowsBetween w t from to)) r
-  unfolding freshInGroup
-  fresh-other w t from to b h e = rw (ne-eqb (tag r) hash h, between-rest w t from to) e
-
-  -- a row that is told to be new by its marks, whatever is said of keys
-  pub fresh-told : (earlier : List Row) → true ≡ (freshKey (Groups f) [] r && freshInGroup f earlier r) → true ≡ freshInGroup f earlier r
-  fresh-told earlier e = sym (and-right (freshKey (Groups f) [] r) (freshInGroup f earlier r) (sym e))
+use Rattle.walks.proofs.GroupLaws.{part-is-row}
+use Rattle.group_row_tests.specs.Alone.{rightAlone}
+use Rattle.group_row_tests.proofs.RowLaws.{may-come}
+use Rattle.sound_group_rows.specs.Told.{RowTold}
 
 -- MARKS: behind the first row of a group stands no `#`, so that every row that may come is remembered as one of the group
 abbrev opened : GroupStand → Bool
@@ -121,11 +76,6 @@ remembered-more f from r marks stand (x ∷ g) s m h =
     let other : eqb (tag r) hash ≡ false =
     ne-eqb (tag r) hash (λ e. no-second-head f stand o (subst (λ (k : ℕ). mayFollow f stand k ≡ true) e m)) in
     rest-more f from r marks other [] (x ∷ g) h
-
--- a row that is right alone may come where the group stands
-pub may-come : (form : Form) (f : GroupFile) (stand : GroupStand) (r : Row) → rightAlone form f stand r ≡ true → mayFollow f stand (tag r) ≡ true
-unfolding rightAlone
-may-come form f stand r e = and-left (mayFollow f stand (tag r)) _ e
 
 -- the tests of a row, in turn: its verdict by what each of them says, as far as they are made
 fold : (o s m fr x : Bool) → ((o && (s && m)) && (fr && x)) ≡ (o && (s && (m && (fr && (x && true)))))

@@ -2,19 +2,14 @@
 use Prim.Native.Nat.{ℕ, suc, _+_}
 use mathlib.Core.Path.{_≡_}
 use mathlib.Core.List.{List, []}
-use mathlib.Core.Bool.{Bool, true, _&&_}
+use mathlib.Core.Bool.{Bool, true}
 use lib.ListN.{drop}
 use Rattle.iff.specs.Lists.{Group}
-use Rattle.iff.specs.Columns.{fieldsOf}
-use Rattle.iff.specs.Tables.{Row, tag, rowAt}
+use Rattle.iff.specs.Tables.{Row, rowAt}
 use Rattle.iff.specs.declared.GroupFile.{GroupFile}
-use Rattle.iff.specs.declared.File.the-variants.{Groups}
-use Rattle.iff.specs.declared.GroupStand.{GroupStand}
 use Rattle.iff.specs.declared.Form.{Form}
-use Rattle.iff_rules.specs.Order.{mayFollow}
 use Rattle.iff_rules.specs.Rows.{Context}
-use Rattle.iff_rules.specs.Meaning.{groupMeaning}
-use Rattle.iff_desk.specs.Sound.{shaped, followedBy, soundGroupRow}
+use Rattle.iff_desk.specs.Sound.{followedBy, soundGroupRow}
 use Rattle.keys.specs.Blocks.{rowsBetween}
 use Rattle.references.specs.Agree.{GroupKeysAmong}
 use Rattle.references.specs.declared.GroupCounts.{GroupCounts}
@@ -29,10 +24,6 @@ pub record RowTold (form : Form) (n : GroupCounts) (co mo st se xf : List ℕ) (
     (b : Bool) : Type 0 where
   pub says : Told form n co mo st se xf (λ c. soundGroupRow c f earlier r) b
   pub kept : b ≡ true → Remembered f [] (from + 1) (drop 1 (followedBy earlier r)) marks
-
--- of one row what needs no other: its place in the group, its words, its numbers
-unfoldable pub rightAlone : Form → GroupFile → GroupStand → Row → Bool
-rightAlone form f stand r = mayFollow f stand (tag r) && (shaped (fieldsOf form (Groups f) (tag r)) r && groupMeaning f r)
 
 -- the rows from `from` on and before `to` as a group
 abbrev pub groupAt : ℕ → List ℕ → ℕ → ℕ → Group Row

@@ -1,11 +1,8 @@
 // One row of a file of groups is sound: it is one that a line of its group may leave after the rows before it. One that is sound is remembered, by which
 // nearly every later row of its group is told to be new without a look at the others.
-use iff::File;
 use iff::Form;
 use iff::GroupFile;
 use iff::GroupStand;
-use iff::tags;
-use iff::words;
 use references::GroupCounts;
 ghost use mathlib.Core.Path.{_≡_};
 ghost use mathlib.Core.List.{[]};
@@ -14,41 +11,9 @@ ghost use lib.ListN.{length, drop};
 ghost use Rattle.iff.specs.Tables.{rowAt, rowWidth};
 ghost use Rattle.iff.specs.declared.File.the-variants.{Groups};
 ghost use Rattle.iff_rules.specs.Order.{groupStand};
-ghost use Rattle.iff_rules.specs.Unique.{freshInGroup};
 ghost use Rattle.keys.specs.Blocks.{rowsBetween};
 ghost use Rattle.group_marks.specs.Numbers.{Remembered};
-ghost use Rattle.sound_group_rows.specs.Told.{RowTold, rightAlone};
-
-// What needs no other row: where the group stands the row may come, its words are those of its record, and its numbers are right.
-fn is_right_alone(file: GroupFile, stand: GroupStand, row: &[u64], form: Form) -> bool
-    requires { ⌜ length (now row) ≡ rowWidth (Groups file) ⌝ }
-    ensures { λ r. ⌜ r ≡ rightAlone form file stand (now (row .entry)) ⌝ }
-{
-    let tag = row[words::TAG];
-    if !order::may_follow(file, stand, tag) {
-        return false;
-    }
-    let record = shapes::record_of(File::Groups(file), tag);
-    if !shapes::is_shaped(record, form, row) {
-        return false;
-    }
-    meanings::group_means(file, row)
-}
-
-// The row clashes with none of its group before it, whose `#` is row `from`. Most are told to be new by their marks.
-fn is_fresh(file: GroupFile, t: &[u64], from: usize, to: usize, row: &[u64], marks: &[u8]) -> bool
-    requires { ⌜ (from ≤ to) × (to * rowWidth (Groups file) ≤ length (now t)) × (length (now row) ≡ rowWidth (Groups file))
-        × Remembered file [] (from + 1) (drop 1 (rowsBetween (rowWidth (Groups file)) (now t) from to)) (now marks) ⌝ }
-    ensures { λ r. ⌜ r ≡ freshInGroup file (drop 1 (rowsBetween (rowWidth (Groups file)) (now (t .entry)) from to)) (now (row .entry)) ⌝ }
-{
-    if row[words::TAG] == tags::HASH {
-        return true;
-    }
-    if group_marks::is_told_new(file, from + 1, row, marks) {
-        return true;
-    }
-    clashes::fresh_in_group(file, t, from + 1, to, row)
-}
+ghost use Rattle.sound_group_rows.specs.Told.{RowTold};
 
 // A row of a group after those from row `from` on and before row `i`. One that is sound is remembered.
 fn is_row_sound(
@@ -75,13 +40,13 @@ fn is_row_sound(
         (now (xfootnotes .entry)) file from (rowsBetween (rowWidth (Groups file)) (now (t .entry)) from i) (now (row .entry))
         (now (marks .exit)) r ⌝ }
 {
-    if !is_right_alone(file, stand, row, form) {
+    if !group_row_tests::is_right_alone(file, stand, row, form) {
         return false;
     }
-    if !is_fresh(file, t, from, i, row, marks) {
+    if !fresh_group_rows::is_fresh(file, t, from, i, row, marks) {
         return false;
     }
-    if !references::met_in_group(
+    if !group_references::met_in_group(
         file,
         row,
         counts,

@@ -38,7 +38,7 @@ use Rattle.tables.proofs.Each.{Each}
 use Rattle.tables.proofs.Rows.{Used}
 use Rattle.tables.proofs.Widths.{widths}
 use Rattle.tables.proofs.Filled.{rows-in-fill, fill-behind, zeros-all}
-use Rattle.load.proofs.RowLaws.{Held, held-rows, held-groups, held-timetbls}
+use Rattle.file_laws.proofs.RowLaws.{Held, held-rows, held-groups, held-timetbls}
 use Rattle.sound_laws.proofs.PassLaws.{all-hold}
 use Rattle.sound_laws.proofs.TextLaws.{lines-bytes, length-lines, some-lines}
 use Rattle.sound_laws.proofs.FileLaws.{FileFine, rows-sound, delivery-fine, file-fine, delivery-words, delivery-formless}

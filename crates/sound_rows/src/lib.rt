@@ -41,7 +41,7 @@ fn is_row_sound(
     if !meanings::row_means(file, count, row) {
         return false;
     }
-    references::met_by_row(file, row, countries, zones, counts, places)
+    row_references::met_by_row(file, row, countries, zones, counts, places)
 }
 
 // Row `i` of a table, where the row of the first line is row 0.

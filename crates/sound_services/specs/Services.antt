@@ -10,8 +10,9 @@ use Rattle.iff_desk.specs.Sound.{distinct}
 use Rattle.fresh_keys.specs.declared.KeyRun.{KeyRun}
 use Rattle.fresh_keys.specs.Runs.{stepRun}
 use Rattle.keys.specs.Lookup.{keysAmong}
-use Rattle.index.specs.Slots.{keyAt}
-use Rattle.index.specs.Keying.{AtRow, RowPut}
+use Rattle.slots.specs.Slots.{keyAt}
+use Rattle.slot_puts.specs.Puts.{AtRow}
+use Rattle.index.specs.Keying.{RowPut}
 use Rattle.index.specs.declared.Next.{Next}
 use Rattle.index.specs.declared.Next.the-variants.{Goes}
 

@@ -20,9 +20,9 @@ use Rattle.fresh_keys.proofs.Runs.{run-rises}
 use Rattle.keys.specs.Blocks.{rowsBetween}
 use Rattle.keys.specs.Lookup.{keysAmong}
 use Rattle.keys.proofs.Among.{any-row}
-use Rattle.repeats.specs.Classes.{servicesFrom}
-use Rattle.repeats.proofs.RowLaws.{next-service, same-services, none-left}
-use Rattle.index.specs.Slots.{keyAt}
+use Rattle.key_classes.specs.Classes.{servicesFrom}
+use Rattle.key_classes.proofs.RowLaws.{next-service, same-services, none-left}
+use Rattle.slots.specs.Slots.{keyAt}
 use Rattle.index.specs.Keying.{Indexed}
 use Rattle.index.specs.declared.Next.{Next}
 use Rattle.index.specs.declared.Next.the-variants.{Came, Goes}
@@ -30,7 +30,7 @@ use Rattle.index.proofs.KeyLaws.{none-indexed, at-row, one-indexed, again-told,
 use Rattle.references.specs.declared.BlockCounts.{BlockCounts}
 use Rattle.walks.specs.Heads.{NextHead}
 use Rattle.sound_services.specs.Services.{mostIndexed, ServiceAt, ServicePut, AllGone}
-use Rattle.sound_blocks.specs.Walk.{BlockTold}
+use Rattle.sound_blocks.specs.Blocks.{BlockTold}
 use Rattle.sound_timetbls.specs.Told.{areSound, BlocksTold, EndTold}
 use Rattle.sound_blocks.specs.declared.Tested.{Tested}
 use Rattle.sound_blocks.specs.declared.Tested.the-variants as tested

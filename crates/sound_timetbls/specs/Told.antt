@@ -11,7 +11,7 @@ use Rattle.fresh_keys.specs.declared.KeyRun.{KeyRun}
 use Rattle.keys.specs.Lookup.{keysAmong}
 use Rattle.references.specs.declared.BlockCounts.{BlockCounts}
 use Rattle.references.specs.Agree.{BlockKeysAmong}
-use Rattle.sound_blocks.specs.Walk.{rowsOf}
+use Rattle.sound_row_walks.specs.Walk.{rowsOf}
 use Rattle.sound_timetbls.specs.declared.BlocksAre.{BlocksAre}
 use Rattle.sound_timetbls.specs.declared.BlocksAre.the-variants.{Sound, Unsound}
 

@@ -6,7 +6,7 @@ ghost use lib.ListN.{length};
 ghost use Rattle.iff.specs.Tables.{rowAt, rowWidth, isHashRow};
 ghost use Rattle.iff.specs.declared.File.the-variants.{Timetbls};
 ghost use Rattle.sound_services.specs.Services.{AllGone};
-ghost use Rattle.sound_blocks.specs.Walk.{usedIn};
+ghost use Rattle.sound_row_walks.specs.Walk.{usedIn};
 ghost use Rattle.sound_timetbls.specs.Told.{BlocksTold, EndTold};
 
 // All blocks are sound and no service comes twice: the number of rows in use, the first line's among them, and whether the services rise.

@@ -40,7 +40,7 @@ pub fn find_group(file: iff::File, t: &[u64], used: usize, places: &[u32], key: 
     ensures { λ r. ⌜ GroupAt file used (now (t .entry)) key r ⌝ }
 {
     let w = tables::row_width(file);
-    match keys::find_at(file, t, used, places, key) {
+    match lookups::find_at(file, t, used, places, key) {
         RowOf::Row(i) => Part {
             from: i,
             to: walks::next_head(t, w, i + 1, used),
@@ -58,7 +58,7 @@ pub fn find_station(t: &[u64], used: usize, places: &[u32], key: u64) -> RowOf
         → RowFor (rowWidth (Rows Stations)) (now (t .entry)) (stationRow R key) r)
         ⌝ }
 {
-    keys::find_at(
+    lookups::find_at(
         iff::File::Rows(iff::RowFile::Stations),
         t,
         used,

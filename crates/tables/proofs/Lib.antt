@@ -9,5 +9,4 @@ pub mod First
 -- laws of the loops
 pub mod Rest
 pub mod Search
-pub mod Copy
 pub mod Zeros

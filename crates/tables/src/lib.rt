@@ -1,9 +1,8 @@
-// Rows in lent u64 slices: read, write, clear, count, look up. Every function is stated over the width of a row.
+// Rows in lent u64 slices: read, counted, and asked for their keys. Every function is stated over the width of a row.
 ghost use mathlib.Core.Path.{_≡_};
-ghost use Prim.Native.Nat.{_+_, _-_, _*_, _/_, _<_, _≤_};
-ghost use lib.ListN.{length, getD, drop, replicate};
-ghost use Rattle.iff.specs.Lists.{any};
-ghost use Rattle.iff.specs.Tables.{room as roomOf, word, rowAt, putRow, rowsUpTo, rowsOfWidth, allZero, keyed, firstRow};
+ghost use Prim.Native.Nat.{_+_, _*_, _<_, _≤_};
+ghost use lib.ListN.{length, getD, drop};
+ghost use Rattle.iff.specs.Tables.{room as roomOf, word, rowAt, rowsOfWidth, allZero, keyed};
 ghost use Rattle.tables.specs.Widths.{WidthOf};
 
 // How many words a row of TIMETBLS has.
@@ -50,30 +49,6 @@ pub fn word_at(t: &[u64], w: usize, i: usize, k: usize) -> u64
     t[i * w + k]
 }
 
-// Puts `row` where row `i` stands.
-pub fn put_row(t: &mut [u64], w: usize, i: usize, row: &[u64])
-    requires { ⌜ (length (now row) ≡ w) × (i * w + w ≤ length (now t)) ⌝ }
-    ensures { λ _. ⌜ now (t .exit) ≡ putRow w (now (t .entry)) i (now (row .entry)) ⌝ }
-{
-    let at = i * w;
-    let mut k = 0;
-    while k < w {
-        t[at + k] = row[k];
-        k += 1;
-    }
-}
-
-// A table that holds nothing: all its words zero.
-pub fn clear(t: &mut [u64])
-    ensures { λ _. ⌜ now (t .exit) ≡ replicate (length (now (t .entry))) 0 ⌝ }
-{
-    let mut i = 0;
-    while i < t.len() {
-        t[i] = 0;
-        i += 1;
-    }
-}
-
 // All words from `from` on are zero; so they are where there are none.
 pub fn zero_from(t: &[u64], from: usize) -> bool
     ensures { λ r. ⌜ r ≡ allZero (drop from (now (t .entry))) ⌝ }
@@ -113,49 +88,4 @@ pub fn keyed_at(t: &[u64], w: usize, i: usize, tag: u64, col: usize, key: u64) -
         return false;
     }
     word_at(t, w, i, col) == key
-}
-
-// The first row with this tag and key among the rows from `from` on and before `to`. An unused row ends the search.
-pub fn find_key_in(
-    t: &[u64],
-    w: usize,
-    from: usize,
-    to: usize,
-    tag: u64,
-    col: usize,
-    key: u64,
-) -> iff::RowOf
-    requires { ⌜ (col < w) × (to * w ≤ length (now t)) ⌝ }
-    ensures { λ r. ⌜ r ≡ firstRow (keyed tag col key) from (rowsUpTo w (to - from) (drop (from * w) (now (t .entry)))) ⌝ }
-{
-    let mut i = from;
-    while i < to {
-        if word_at(t, w, i, iff::words::TAG) == 0 {
-            return iff::RowOf::NoRow;
-        }
-        if keyed_at(t, w, i, tag, col, key) {
-            return iff::RowOf::Row(i);
-        }
-        i += 1;
-    }
-    iff::RowOf::NoRow
-}
-
-// The first row of a table with this tag and key.
-pub fn find_key(t: &[u64], w: usize, tag: u64, col: usize, key: u64) -> iff::RowOf
-    requires { ⌜ col < w ⌝ }
-    ensures { λ r. ⌜ r ≡ firstRow (keyed tag col key) 0 (rowsOfWidth w (now (t .entry))) ⌝ }
-{
-    find_key_in(t, w, 0, t.len() / w, tag, col, key)
-}
-
-// A table has a row with this tag and key.
-pub fn has_key(t: &[u64], w: usize, tag: u64, col: usize, key: u64) -> bool
-    requires { ⌜ col < w ⌝ }
-    ensures { λ r. ⌜ r ≡ any (keyed tag col key) (rowsOfWidth w (now (t .entry))) ⌝ }
-{
-    match find_key(t, w, tag, col, key) {
-        iff::RowOf::Row(_) => true,
-        iff::RowOf::NoRow => false,
-    }
 }

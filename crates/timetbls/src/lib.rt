@@ -34,7 +34,7 @@ fn stray_test(text: &[u8], from: usize) -> iff::Test
     if letter == b'#' {
         return iff::Test::Passes;
     }
-    if order::is_known_in_block(letter) {
+    if first_bytes::is_known_in_block(letter) {
         return iff::Test::Fails(iff::Reason::Order);
     }
     iff::Test::Fails(iff::Reason::Layout)
@@ -90,7 +90,7 @@ pub fn read_blocks(
                 &mut places,
             );
             let mut marks = [0u8; 524288];
-            block_walks::walk_blocks(
+            block_repeats::walk_blocks(
                 text,
                 from,
                 form,
@@ -152,7 +152,7 @@ pub fn read_timetbls(
                             services: 0,
                         },
                         block_walks::BlocksPut::All(rises, rows, services) => {
-                            heads::set_rises(t, rises);
+                            head_words::set_rises(t, rises);
                             TimetblsRead {
                                 verdict: iff::Verdict::Fine,
                                 rows: rows,

@@ -1,4 +1,4 @@
--- `legs::all_three` meets its contract. Assumes nothing.
+-- `block_legs::all_three` meets its contract. Assumes nothing.
 use borrow.Author.Tests.{not-true, not-false}
 use Rattle.block_legs.proofs.all_three.Statement.{statement}
 use Rattle.block_legs.proofs.all_three.Tie as tie

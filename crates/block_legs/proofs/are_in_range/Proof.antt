@@ -1,4 +1,4 @@
--- `legs::are_in_range` meets its contract: what is left to ask is the whole. Assumes nothing.
+-- `block_legs::are_in_range` meets its contract: what is left to ask is the whole. Assumes nothing.
 use Prim.Native.Nat.{_-_}
 use mathlib.Core.Path.{sym, _∙_}
 use borrow.Author.Needs.{needs}

@@ -1,4 +1,4 @@
--- `legs::are_right` meets its contract: its tests are the definition's. Assumes nothing.
+-- `block_legs::are_right` meets its contract: its tests are the definition's. Assumes nothing.
 use mathlib.Core.Path.{_≡_, refl, sym, _∙_}
 use mathlib.Core.Bool.{true}
 use borrow.Author.Needs.{needs}

@@ -1,9 +1,9 @@
--- `legs::is_covered` meets its contract: after all lines, the marks are the counts. Assumes nothing.
+-- `block_legs::is_covered` meets its contract: after all lines, the marks are the counts. Assumes nothing.
 use mathlib.Core.Path.{_∙_}
 use borrow.Author.Needs.{needs}
 use borrow.Author.Tests.{not-true, not-false}
 use Rattle.iff_rules.specs.Meaning.{mostStops}
-use Rattle.legs.proofs.MarkLaws.{twice-not, marks-are}
+use Rattle.leg_marks.proofs.MarkLaws.{twice-not, marks-are}
 use Rattle.block_legs.proofs.is_covered.Statement.{statement}
 use Rattle.block_legs.proofs.is_covered.Tie as tie
 

@@ -1,4 +1,4 @@
--- `legs::line_in_range` meets its contract: a line that names no stops is in range, and of any other its row. Assumes nothing.
+-- `block_legs::line_in_range` meets its contract: a line that names no stops is in range, and of any other its row. Assumes nothing.
 use mathlib.Core.Path.{ap, sym, _∙_}
 use borrow.Author.Needs.{needs}
 use borrow.Author.Tests.{not-true}

@@ -1,4 +1,4 @@
--- `legs::line_row` meets its contract: the record of the line's letter. Assumes nothing.
+-- `block_legs::line_row` meets its contract: the record of the line's letter. Assumes nothing.
 use borrow.Author.Needs.{needs}
 use Rattle.block_legs.proofs.RowLaws.{reads-row, row-read}
 use Rattle.block_legs.proofs.line_row.Statement.{statement}

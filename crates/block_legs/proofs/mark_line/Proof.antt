@@ -1,4 +1,4 @@
--- `legs::mark_line` meets its contract: a line of another kind marks none, and any other as its row does. Assumes nothing.
+-- `block_legs::mark_line` meets its contract: a line of another kind marks none, and any other as its row does. Assumes nothing.
 use mathlib.Core.Path.{sym, _∙_}
 use borrow.Author.Needs.{needs}
 use Rattle.legs.proofs.SpanLaws.{other-kind}

@@ -1,4 +1,4 @@
--- `legs::mark_lines` meets its contract: the marks set and those that the lines left will set are all. Assumes nothing.
+-- `block_legs::mark_lines` meets its contract: the marks set and those that the lines left will set are all. Assumes nothing.
 use Prim.Native.Nat.{_-_}
 use borrow.Author.Needs.{needs}
 use borrow.Author.Tests.{not-true, not-false}

@@ -1,4 +1,4 @@
--- `legs::names_stops` meets its contract. Assumes nothing.
+-- `block_legs::names_stops` meets its contract. Assumes nothing.
 use borrow.Author.Tests.{ne-eqb}
 use Rattle.iff.specs.Lists.{any}
 use Rattle.legs.specs.Rows.{namesStops}

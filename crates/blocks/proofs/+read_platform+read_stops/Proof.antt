@@ -7,7 +7,7 @@ use borrow.Author.Needs.{needs}
 use borrow.Fn.Kinds.{In}
 use borrow.Fn.PlainCycle.{Measures, is, falls, and}
 use lib.ListN.{length}
-use Rattle.blocks.specs.Lines.{keysFrom}
+use Rattle.block_lines.specs.Lines.{keysFrom}
 use Rattle.blocks.proofs.ReadLaws.{Reading, starts, held, goes-on, ends}
 use Rattle.blocks.proofs.read_platform.Reads as read-platform
 use Rattle.blocks.proofs.read_platform.Kinds as read-platform-kinds

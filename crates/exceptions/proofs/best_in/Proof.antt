@@ -12,7 +12,7 @@ use Rattle.iff_desk.specs.declared.Best.{Best}
 use Rattle.iff_desk.specs.declared.Best.the-variants.{NoBest}
 use Rattle.tables.proofs.Rows.{row-inside}
 use Rattle.keys.specs.Blocks.{rowsBetween}
-use Rattle.exceptions.specs.Rows.{appliesBy}
+use Rattle.exception_rows.specs.Rows.{appliesBy}
 use Rattle.exceptions.proofs.RowLaws.{best-none, best-on}
 use Rattle.exceptions.proofs.best_in.Statement.{statement}
 use Rattle.exceptions.proofs.best_in.Tie as tie

@@ -1,4 +1,4 @@
--- `calyxcabin_is_sound` meets its contract: it is `sound::is_sound`'s, as a number. Assumes nothing.
+-- `calyxcabin_is_sound` meets its contract: it is `sound_tables::is_sound`'s, as a number. Assumes nothing.
 use mathlib.Core.Path.{_∙_, ap}
 use Rattle.question_numbers.specs.Numbers.{soundNumber}
 use borrow.Author.Needs.{needs}

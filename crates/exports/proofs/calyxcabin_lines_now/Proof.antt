@@ -1,4 +1,4 @@
--- `calyxcabin_lines_now` meets its contract: it is the block, or `parts::lines_part`'s, in numbers. Assumes nothing.
+-- `calyxcabin_lines_now` meets its contract: it is the block, or `service_lines::lines_part`'s, in numbers. Assumes nothing.
 use Prim.Native.Nat.{ℕ}
 use mathlib.Core.Path.{_≡_, sym, _∙_, ap, subst}
 use mathlib.Core.List.{List}
@@ -9,9 +9,10 @@ use Rattle.iff.specs.Lines.{lines}
 use Rattle.iff.specs.declared.Test.the-variants.{Passes}
 use Rattle.iff_desk.specs.Parts.{isOneBlock, linesNowTest}
 use Rattle.question_numbers.specs.Numbers.{linesWords}
-use Rattle.parts.specs.Bounds.{Inside, linesPart, textNow, partNow}
+use Rattle.parts.specs.Bounds.{Inside}
 use Rattle.parts.specs.declared.Part.{Part}
-use Rattle.parts.proofs.PartLaws.{now-holds, now-tested}
+use Rattle.service_lines.specs.Bounds.{linesPart, textNow, partNow}
+use Rattle.service_lines.proofs.LinesLaws.{now-holds, now-tested}
 use borrow.Author.Needs.{needs}
 use Rattle.exports.specs.Exported.{LinesInNumbers}
 use Rattle.exports.proofs.calyxcabin_lines_now.Statement.{statement}

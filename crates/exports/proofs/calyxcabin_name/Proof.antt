@@ -1,8 +1,9 @@
--- `calyxcabin_name` meets its contract: it is `parts::name_part`'s, in numbers. Assumes nothing.
+-- `calyxcabin_name` meets its contract: it is `station_names::name_part`'s, in numbers. Assumes nothing.
 use mathlib.Core.Path.{_∙_, ap, subst}
 use Rattle.question_numbers.specs.Numbers.{partWords}
-use Rattle.parts.specs.Bounds.{Inside, namePart}
-use Rattle.parts.proofs.PartLaws.{name-holds, name-tested}
+use Rattle.parts.specs.Bounds.{Inside}
+use Rattle.station_names.specs.Names.{namePart}
+use Rattle.station_names.proofs.NameLaws.{name-holds, name-tested}
 use borrow.Author.Needs.{needs}
 use Rattle.exports.proofs.calyxcabin_name.Statement.{statement}
 use Rattle.exports.proofs.calyxcabin_name.Tie as tie

@@ -1,4 +1,4 @@
--- `text::all_blank` meets its contract: an instance of the laws of one test of all bytes. Assumes nothing.
+-- `fields::all_blank` meets its contract: an instance of the laws of one test of all bytes. Assumes nothing.
 use Prim.Native.Nat.{_-_}
 use mathlib.Core.Path.{refl, sym}
 use borrow.Author.Needs.{needs}

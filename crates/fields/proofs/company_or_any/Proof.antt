@@ -1,4 +1,4 @@
--- `text::company_or_any` meets its contract. Assumes nothing.
+-- `fields::company_or_any` meets its contract. Assumes nothing.
 use mathlib.Core.Path.{sym, _∙_}
 use borrow.Author.Needs.{needs}
 use Rattle.iff.specs.Values.{companyOrAny}

@@ -1,4 +1,4 @@
--- `text::is_column` meets its contract. Assumes nothing.
+-- `fields::is_column` meets its contract. Assumes nothing.
 use borrow.Author.Needs.{needs}
 use borrow.Author.Tests.{eq-eqb, ne-eqb}
 use Rattle.iff.specs.Columns.{column}

@@ -1,4 +1,4 @@
--- `text::is_figure` meets its contract. Assumes nothing.
+-- `fields::is_figure` meets its contract. Assumes nothing.
 use borrow.Author.Needs.{needs}
 use borrow.Author.Tests.{eq-eqb, ne-eqb}
 use Rattle.iff.specs.Columns.{figure}

@@ -1,4 +1,4 @@
--- `text::is_wildcard` meets its contract: the wildcard of a width is `*` and blanks to that width. Assumes nothing.
+-- `fields::is_wildcard` meets its contract: the wildcard of a width is `*` and blanks to that width. Assumes nothing.
 use mathlib.Core.Path.{_∙_}
 use borrow.Author.Needs.{needs}
 use Rattle.text.proofs.ValueLaws.{wild-none, wild-other, wild-rest}

@@ -1,4 +1,4 @@
--- `text::mark_word` meets its contract. The loop's invariant: the word is what the marks from i on make, and is below 2 to their number. Assumes nothing.
+-- `fields::mark_word` meets its contract. The loop's invariant: the word is what the marks from i on make, and is below 2 to their number. Assumes nothing.
 use mathlib.Core.Path.{_≡_, ap, _∙_}
 use Prim.Native.Nat.{ℕ, _-_}
 use borrow.Author.Needs.{needs}

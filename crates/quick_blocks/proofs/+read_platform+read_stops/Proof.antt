@@ -7,7 +7,7 @@ use borrow.Author.Needs.{needs}
 use borrow.Fn.Kinds.{In}
 use borrow.Fn.PlainCycle.{Measures, is, falls, and}
 use lib.ListN.{length}
-use Rattle.blocks.specs.Lines.{keysFrom}
+use Rattle.block_lines.specs.Lines.{keysFrom}
 use Rattle.quick_blocks.proofs.DriveLaws.{Driving, driving-start, driving-next, goes-further, drivable, first-room, drove-on, drove-stuck, drove-end}
 use Rattle.quick_blocks.proofs.read_platform.Reads as read-platform
 use Rattle.quick_blocks.proofs.read_platform.Kinds as read-platform-kinds

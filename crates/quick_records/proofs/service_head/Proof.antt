@@ -5,7 +5,7 @@ use borrow.Author.Needs.{needs}
 use borrow.Author.Tests.{not-false}
 use Rattle.iff.specs.Columns.{pictureFrom}
 use Rattle.quick_lines.specs.Pictures.{Pictured}
-use Rattle.quick_records.proofs.FieldLaws.{nothing, service-told}
+use Rattle.quick_words.proofs.FieldLaws.{nothing, service-told}
 use Rattle.quick_records.proofs.service_head.Statement.{statement}
 use Rattle.quick_records.proofs.service_head.Tie as tie
 

@@ -8,7 +8,7 @@ use Rattle.iff.specs.declared.RowFile.the-variants.{Company}
 use Rattle.iff.specs.declared.File.the-variants.{Rows}
 use Rattle.tables.proofs.First.{found}
 use Rattle.quick_lines.specs.Pictures.{Pictured}
-use Rattle.quick_records.proofs.FieldLaws.{nothing, there, train-told}
+use Rattle.quick_words.proofs.FieldLaws.{nothing, there, train-told}
 use Rattle.quick_records.proofs.train_number.Statement.{statement}
 use Rattle.quick_records.proofs.train_number.Tie as tie
 

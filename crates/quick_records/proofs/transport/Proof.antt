@@ -8,7 +8,7 @@ use Rattle.iff.specs.declared.RowFile.the-variants.{Trnsmode}
 use Rattle.iff.specs.declared.File.the-variants.{Rows}
 use Rattle.tables.proofs.First.{found}
 use Rattle.quick_lines.specs.Pictures.{Pictured}
-use Rattle.quick_records.proofs.FieldLaws.{nothing, there, transport-told}
+use Rattle.quick_words.proofs.FieldLaws.{nothing, there, transport-told}
 use Rattle.quick_records.proofs.transport.Statement.{statement}
 use Rattle.quick_records.proofs.transport.Tie as tie
 

@@ -4,10 +4,10 @@ use native.Mathlib.Omega.{arith}
 use borrow.Author.Needs.{needs}
 use Rattle.iff.specs.declared.File.the-variants.{Timetbls}
 use Rattle.keys.specs.Lookup.{keysAmong}
-use Rattle.repeats.specs.Classes.{Asking}
-use Rattle.repeats.proofs.ClassLaws.{none-yet, one-class}
+use Rattle.repeats.specs.Asking.{Asking}
+use Rattle.repeats.proofs.AskingLaws.{none-yet, one-class}
 use Rattle.repeats.proofs.KeyLaws.{told-first, told-never, told-nothing}
-use Rattle.repeats.proofs.RowLaws.{no-more}
+use Rattle.key_classes.proofs.RowLaws.{no-more}
 use Rattle.repeats.proofs.first_repeat.Statement.{statement}
 use Rattle.repeats.proofs.first_repeat.Tie as tie
 

@@ -1,5 +1,5 @@
 -- `put_field` meets its contract. Assumes nothing.
-use Rattle.reports.proofs.TextLaws.{then}
+use Rattle.text_puts.proofs.TextLaws.{then}
 use borrow.Author.Needs.{needs}
 use Rattle.reports.proofs.put_field.Statement.{statement}
 use Rattle.reports.proofs.put_field.Tie as tie

@@ -1,6 +1,6 @@
 -- `put_report` meets its contract. Assumes nothing.
 use borrow.Author.Needs.{needs}
-use Rattle.reports.proofs.TextLaws.{at-front}
+use Rattle.text_puts.proofs.TextLaws.{at-front}
 use Rattle.reports.proofs.put_report.Statement.{statement}
 use Rattle.reports.proofs.put_report.Tie as tie
 

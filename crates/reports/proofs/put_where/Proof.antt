@@ -1,6 +1,6 @@
 -- `put_where` meets its contract. Assumes nothing.
 use borrow.Author.Needs.{needs}
-use Rattle.reports.proofs.TextLaws.{then}
+use Rattle.text_puts.proofs.TextLaws.{then}
 use Rattle.reports.proofs.put_where.Statement.{statement}
 use Rattle.reports.proofs.put_where.Tie as tie
 

@@ -13,7 +13,7 @@ use Rattle.iff_rules.specs.Rows.{Context}
 use Rattle.references.specs.Agree.{StationKeys}
 use Rattle.reading.specs.Reading.{beginTest}
 use Rattle.heads.proofs.FileLaws.{some-lines, absent, passed, first-refused, rows-refused, rows-accepted, flag-fits}
-use Rattle.row_files.proofs.WholeLaws.{plain-begun, begun-first}
+use Rattle.file_rows.proofs.WholeLaws.{plain-begun, begun-first}
 use Rattle.row_files.proofs.read_row_file.Statement.{statement}
 use Rattle.row_files.proofs.read_row_file.Tie as tie
 

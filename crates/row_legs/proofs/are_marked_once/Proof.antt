@@ -5,7 +5,7 @@ use native.Mathlib.Omega.{arith}
 use borrow.Author.Needs.{needs}
 use borrow.Author.Tests.{not-true, not-false}
 use Rattle.iff_rules.specs.Meaning.{mostStops}
-use Rattle.legs.proofs.MarkLaws.{twice-not, marks-are}
+use Rattle.leg_marks.proofs.MarkLaws.{twice-not, marks-are}
 use Rattle.linked_legs.specs.Links.{blockBetween}
 use Rattle.row_legs.proofs.TestLaws.{kind-once}
 use Rattle.row_legs.proofs.are_marked_once.Statement.{statement}

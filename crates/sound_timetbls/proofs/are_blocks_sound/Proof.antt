@@ -12,8 +12,8 @@ use Rattle.iff.specs.Tables.{isHashRow, rowAt, rowWidth}
 use Rattle.iff.specs.declared.File.the-variants.{Timetbls}
 use Rattle.tables.proofs.Rows.{row-in-table}
 use Rattle.walks.proofs.TableLaws.{inside}
-use Rattle.sound_blocks.specs.Walk.{usedIn}
-use Rattle.sound_blocks.proofs.UsedLaws.{room-ends, rows-end, row-used}
+use Rattle.sound_row_walks.specs.Walk.{usedIn}
+use Rattle.sound_row_walks.proofs.UsedLaws.{room-ends, rows-end, row-used}
 use Rattle.sound_blocks.proofs.BlockLaws.{rises}
 use Rattle.sound_timetbls.proofs.ServiceLaws.{Going, going-first, all-gone, going-last, row-astray, block-unsound, service-at, service-came, going-on}
 use Rattle.sound_timetbls.proofs.are_blocks_sound.Statement.{statement}

@@ -1,7 +1,7 @@
 -- `timetbls::read_blocks` meets its contract: a stray line is the first fault, or the blocks say all. Assumes nothing.
 use borrow.Author.Needs.{needs}
 use Rattle.marks.proofs.MarkLaws.{none-marked}
-use Rattle.block_walks.proofs.ReadLaws.{blocks-ready, read-stray, read-all}
+use Rattle.block_repeats.proofs.ReadLaws.{blocks-ready, read-stray, read-all}
 use Rattle.timetbls.proofs.read_blocks.Statement.{statement}
 use Rattle.timetbls.proofs.read_blocks.Tie as tie
 

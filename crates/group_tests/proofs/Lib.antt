@@ -1,0 +1,3 @@
+mod TestLaws
+mod LineLaws
+mod RowLaws

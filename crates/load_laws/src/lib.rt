@@ -1,0 +1,1 @@
+// Law over a load: what its steps say makes what it promises. See proofs/.

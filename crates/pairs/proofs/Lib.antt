@@ -1,0 +1,2 @@
+pub mod LaterLaws
+mod RowLaws

@@ -1,0 +1,2 @@
+mod ColumnLaws
+mod LineLaws

@@ -1,2 +1,0 @@
-pub mod GroupLaws
-pub mod WalkLaws

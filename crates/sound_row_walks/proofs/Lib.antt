@@ -1,0 +1,2 @@
+pub mod UsedLaws
+mod WalkLaws
