@@ -47,27 +47,31 @@ pub record FirstsReady (F z : Seven (List ℕ)) : Type 0 where
 
 -- ONCE THEY ARE READ, after a verdict v: the verdict after each step, and what its reader tells; tables were z and are a
 pub record FirstsRead (header : List ℕ) (F : Seven (List ℕ)) (v : Verdict) (z a : Seven (List ℕ)) (r : FirstFiles) : Type 0 where
-  pub v1 : Verdict
-  pub v2 : Verdict
-  pub v3 : Verdict
-  pub v4 : Verdict
-  pub v5 : Verdict
-  pub v6 : Verdict
-  pub v7 : Verdict
-  pub delivered : DeliveryRead (F .delivery) v (z .delivery) (a .delivery) v1
+  pub after-delivery : Verdict
+  pub after-company : Verdict
+  pub after-named : Verdict
+  pub after-country : Verdict
+  pub after-trnsmode : Verdict
+  pub after-timezone : Verdict
+  pub after-stations : Verdict
+  pub delivered : DeliveryRead (F .delivery) v (z .delivery) (a .delivery) after-delivery
   pub formed : r .form ≡ formOf (a .delivery)
   pub companies :
-      FileRead (Rows Company) (r .form) (λ c. StationKeys c (z .country) (z .timezone)) header (F .company) v1 (z .company) (a .company) v2
-  pub named : v3 ≡ orElse v2 (companyNamed (a .delivery) (a .company))
+      FileRead (Rows Company) (r .form) (λ c. StationKeys c (z .country) (z .timezone)) header
+      (F .company) after-delivery (z .company) (a .company) after-company
+  pub named : after-named ≡ orElse after-company (companyNamed (a .delivery) (a .company))
   pub countries :
-      FileRead (Rows Country) (r .form) (λ c. StationKeys c (z .stations) (z .timezone)) header (F .country) v3 (z .country) (a .country) v4
+      FileRead (Rows Country) (r .form) (λ c. StationKeys c (z .stations) (z .timezone)) header
+      (F .country) after-named (z .country) (a .country) after-country
   pub modes :
-      FileRead (Rows Trnsmode) (r .form) (λ c. StationKeys c (a .country) (z .timezone)) header (F .trnsmode) v4 (z .trnsmode) (a .trnsmode) v5
+      FileRead (Rows Trnsmode) (r .form) (λ c. StationKeys c (a .country) (z .timezone)) header
+      (F .trnsmode) after-country (z .trnsmode) (a .trnsmode) after-trnsmode
   pub zones :
       FileRead (Groups Timezone) (r .form) (λ c. GroupKeys c 0 (a .company) (a .trnsmode) (z .stations) (a .country) (z .footnote)) header
-      (F .timezone) v5 (z .timezone) (a .timezone) v6
+      (F .timezone) after-trnsmode (z .timezone) (a .timezone) after-timezone
   pub places :
-      FileRead (Rows Stations) (r .form) (λ c. StationKeys c (a .country) (a .timezone)) header (F .stations) v6 (z .stations) (a .stations) v7
+      FileRead (Rows Stations) (r .form) (λ c. StationKeys c (a .country) (a .timezone)) header
+      (F .stations) after-timezone (z .stations) (a .stations) after-stations
   pub footnotes :
       FileRead (Groups Footnote) (r .form) (λ c. GroupKeys c 0 (a .company) (a .trnsmode) (a .stations) (a .country) (a .timezone)) header
-      (F .footnote) v7 (z .footnote) (a .footnote) (r .verdict)
+      (F .footnote) after-stations (z .footnote) (a .footnote) (r .verdict)

@@ -34,18 +34,18 @@ pub record LastsReady (F z : Four (List ℕ)) : Type 0 where
 -- were z and are a
 pub record LastsRead (form : Form) (header companies modes stations footnotes : List ℕ) (F : Four (List ℕ)) (v : Verdict) (z a : Four (List ℕ))
     (r : LastFiles) : Type 0 where
-  pub v1 : Verdict
-  pub v2 : Verdict
-  pub v3 : Verdict
+  pub after-timetbls : Verdict
+  pub after-changes : Verdict
+  pub after-xfootnote : Verdict
   pub rows : ℕ
-  pub blocks : FileRead Timetbls form (λ c. BlockKeys c companies modes stations footnotes) header (F .timetbls) v (z .timetbls) (a .timetbls) v1
-  pub counted : fine v1 ≡ true → Counted (a .timetbls) rows (r .services)
+  pub blocks : FileRead Timetbls form (λ c. BlockKeys c companies modes stations footnotes) header (F .timetbls) v (z .timetbls) (a .timetbls) after-timetbls
+  pub counted : fine after-timetbls ≡ true → Counted (a .timetbls) rows (r .services)
   pub changed :
       FileRead (Groups Changes) form (λ c. GroupKeys c rows companies modes stations (a .timetbls) (z .xfootnote)) header
-      (F .changes) v1 (z .changes) (a .changes) v2
+      (F .changes) after-timetbls (z .changes) (a .changes) after-changes
   pub marked :
       FileRead (Groups Xfootnote) form (λ c. GroupKeys c rows companies modes stations (a .timetbls) footnotes) header
-      (F .xfootnote) v2 (z .xfootnote) (a .xfootnote) v3
+      (F .xfootnote) after-changes (z .xfootnote) (a .xfootnote) after-xfootnote
   pub excepted :
       FileRead (Groups Xchanges) form (λ c. GroupKeys c rows companies modes stations (a .timetbls) (a .xfootnote)) header
-      (F .xchanges) v3 (z .xchanges) (a .xchanges) (r .verdict)
+      (F .xchanges) after-xfootnote (z .xchanges) (a .xchanges) (r .verdict)

@@ -242,7 +242,7 @@ pub firsts-back : {header : List ℕ} {F : Seven (List ℕ)} {v : Verdict} {z a 
 firsts-back d g =
     let stations = rows-back (d .places) (groups-back (d .footnotes) g) in
     let countries = rows-back (d .countries) (rows-back (d .modes) (groups-back (d .zones) stations)) in
-    delivery-back (d .delivered) (rows-back (d .companies) (back (d .v2) _ (d .named) countries))
+    delivery-back (d .delivered) (rows-back (d .companies) (back (d .after-company) _ (d .named) countries))
 
 -- THE WHOLE: eleven files F, tables at entry t, cleared z, read a, at exit b; the verdict on their sizes
 module _ (F t z a b : PerFile (List ℕ)) (v0 : Verdict) (header : List ℕ) (firsts : FirstFiles) (lasts : LastFiles) (r : Answer) where
@@ -279,37 +279,37 @@ module _ (F t z a b : PerFile (List ℕ)) (v0 : Verdict) (header : List ℕ) (fi
   module _ (s : Steps) where
     -- the verdict after each step, the form, and the rows and services of TIMETBLS
     abbrev v1 : Verdict
-    v1 = s .first .v1
+    v1 = s .first .after-delivery
 
     abbrev v2 : Verdict
-    v2 = s .first .v2
+    v2 = s .first .after-company
 
     abbrev v3 : Verdict
-    v3 = s .first .v3
+    v3 = s .first .after-named
 
     abbrev v4 : Verdict
-    v4 = s .first .v4
+    v4 = s .first .after-country
 
     abbrev v5 : Verdict
-    v5 = s .first .v5
+    v5 = s .first .after-trnsmode
 
     abbrev v6 : Verdict
-    v6 = s .first .v6
+    v6 = s .first .after-timezone
 
     abbrev v7 : Verdict
-    v7 = s .first .v7
+    v7 = s .first .after-stations
 
     abbrev v8 : Verdict
     v8 = firsts .verdict
 
     abbrev v9 : Verdict
-    v9 = s .last .v1
+    v9 = s .last .after-timetbls
 
     abbrev v10 : Verdict
-    v10 = s .last .v2
+    v10 = s .last .after-changes
 
     abbrev v11 : Verdict
-    v11 = s .last .v3
+    v11 = s .last .after-xfootnote
 
     abbrev v12 : Verdict
     v12 = lasts .verdict

@@ -67,14 +67,11 @@ at-delivery c = delivery-of-form (at-form c)
 abbrev Right : tie.Start → Type 0
 Right s = fine (s .args .v) ≡ true
 
-abbrev start-delivery : tie.After-read-delivery → tie.Start
-start-delivery c = start-of-delivery c
-
-back-delivery : (c : tie.After-read-delivery) → fine (c .read-delivery .result) ≡ true → Right (start-delivery c)
+back-delivery : (c : tie.After-read-delivery) → fine (c .read-delivery .result) ≡ true → Right (start-of-delivery c)
 back-delivery c g = delivery-back (c .read-delivery .ensures) g
 
 abbrev start-company : tie.After-read-row-file → tie.Start
-start-company c = start-delivery (delivery-of-form (form-of-company c))
+start-company c = start-of-delivery (delivery-of-form (form-of-company c))
 
 back-company : (c : tie.After-read-row-file) → fine (c .read-row-file .result) ≡ true → Right (start-company c)
 back-company c g = back-delivery (delivery-of-form (form-of-company c)) (rows-back (c .read-row-file .ensures) g)
@@ -118,7 +115,7 @@ read-delivery-requires c κs =
 read-row-file-requires : tie.Need-read-row-file-requires
 read-row-file-requires c κs =
     let d = c .before .before .before .before .before .before .before in
-    λ g. start-delivery d .pre (back-delivery d g) .company
+    λ g. start-of-delivery d .pre (back-delivery d g) .company
 
 read-row-file-requires-2 : tie.Need-read-row-file-requires-2
 read-row-file-requires-2 c κs =
@@ -170,13 +167,13 @@ same-length-7 c = at-footnote c .read-group-file2 .ensures .kept
 returns : tie.Need-returns
 returns c =
     record {
-      v1 = _;
-      v2 = _;
-      v3 = _;
-      v4 = _;
-      v5 = _;
-      v6 = _;
-      v7 = _;
+      after-delivery = _;
+      after-company = _;
+      after-named = _;
+      after-country = _;
+      after-trnsmode = _;
+      after-timezone = _;
+      after-stations = _;
       delivered = at-delivery c .read-delivery .ensures;
       formed = at-form c .form-of .ensures;
       companies = at-company c .read-row-file .ensures;

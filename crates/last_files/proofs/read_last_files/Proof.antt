@@ -33,17 +33,17 @@ abbrev at-timetbls : tie.After-slice-known8 → tie.After-read-timetbls
 at-timetbls c = timetbls-of-changes (at-changes c)
 
 -- NO FAULT NOW, SO NONE BEFORE
-abbrev fine-first : tie.Start → Type 0
-fine-first s = fine (s .args .v) ≡ true
+abbrev Right : tie.Start → Type 0
+Right s = fine (s .args .v) ≡ true
 
-back-timetbls : (c : tie.After-read-timetbls) → fine (c .read-timetbls .result .verdict) ≡ true → fine-first (start-of-timetbls c)
+back-timetbls : (c : tie.After-read-timetbls) → fine (c .read-timetbls .result .verdict) ≡ true → Right (start-of-timetbls c)
 back-timetbls c g = blocks-back (c .read-timetbls .ensures .file) g
 
-back-changes : (c : tie.After-read-group-file) → fine (c .read-group-file .result) ≡ true → fine-first (start-of-timetbls (timetbls-of-changes c))
+back-changes : (c : tie.After-read-group-file) → fine (c .read-group-file .result) ≡ true → Right (start-of-timetbls (timetbls-of-changes c))
 back-changes c g = back-timetbls (timetbls-of-changes c) (groups-back (c .read-group-file .ensures) g)
 
 back-xfootnote : (c : tie.After-read-group-file2) → fine (c .read-group-file2 .result) ≡ true
-    → fine-first (start-of-timetbls (timetbls-of-changes (changes-of-xfootnote c)))
+    → Right (start-of-timetbls (timetbls-of-changes (changes-of-xfootnote c)))
 back-xfootnote c g = back-changes (changes-of-xfootnote c) (groups-back (c .read-group-file2 .ensures) g)
 
 -- WHAT THE READERS ASK FOR
@@ -83,9 +83,9 @@ same-length-4 c = at-xchanges c .read-group-file3 .ensures .kept
 returns : tie.Need-returns
 returns c =
     record {
-      v1 = _;
-      v2 = _;
-      v3 = _;
+      after-timetbls = _;
+      after-changes = _;
+      after-xfootnote = _;
       rows = _;
       blocks = at-timetbls c .read-timetbls .ensures .file;
       counted = at-timetbls c .read-timetbls .ensures .counted;
