@@ -27,6 +27,9 @@ enum { CALYXCABIN_FILES = 11 };
 /* The words of a row, by file. */
 static const size_t calyxcabin_width[CALYXCABIN_FILES] = {6, 6, 6, 6, 6, 6, 14, 7, 6, 14, 7};
 
+/* The words of a question and of an answer on a sheet. */
+enum { CALYXCABIN_QUESTION = 6, CALYXCABIN_ANSWER = 8 };
+
 /* A file, and a table; and eleven of them as the functions take them. */
 typedef struct {
     const uint8_t *bytes;
@@ -82,6 +85,13 @@ void calyxcabin_stop_time(
 void calyxcabin_change(
     CALYXCABIN_ELEVEN(const uint64_t), uint64_t from_service, uint64_t from_stop, uint64_t from_date, uint64_t to_service, uint64_t to_stop,
     uint64_t to_date, uint64_t *answer, int32_t *gap);
+
+/* A sheet of changes, for which the tables are tested once. questions: from service, stop and date, to service, stop and date, six words for
+ * each change. answers: eight words for each, the seven of calyxcabin_change and the gap, a 64-bit two's complement number. A list has as many
+ * entries as its length divided by the words of one, rounded down. 0, or 16, or 23 where there is room for fewer answers than questions; then
+ * no answer is written. A change that is refused has its number in its own answer. Words behind the answers stay as they were. */
+uint64_t calyxcabin_sheet(
+    CALYXCABIN_ELEVEN(const uint64_t), const uint64_t *questions, size_t questions_length, uint64_t *answers, size_t answers_length);
 
 /* The rank of an exception by its four keys as the table of XCHANGES holds them (docs/TABLES.md): the place of its pattern on the desk's card
  * (docs/CARD.md), from 0, all wildcards, to 15, none. */

@@ -18,9 +18,8 @@ use Rattle.text.specs.declared.LineSpan.{LineSpan}
 use Rattle.text.specs.Spans.{spanLine, LineAt}
 use Rattle.text.proofs.LineLaws.{lines-end}
 use Rattle.text.proofs.PictureLaws.{and-left, and-right}
-use Rattle.tables.proofs.Each.{Each}
-use Rattle.tables.proofs.Rows.{Used}
-use Rattle.tables.proofs.Put.{length-put, put-front, put-behind}
+use Rattle.tables.proofs.Put.{length-put}
+use Rattle.tables.proofs.Puts.{used-wide, putRows, rows-put}
 use Rattle.legs.proofs.RowLaws.{block-lines}
 use Rattle.records.specs.Layouts.{legible}
 use Rattle.records.proofs.FileLaws.{can-be-put}
@@ -31,41 +30,6 @@ use Rattle.block_rows.proofs.RowLaws.{endedLine, any-end, rows-used, ro
 -- how many words a row has
 abbrev w : ℕ
 w = rowWidth Timetbls
-
--- SOME ROWS from row i on
-unfoldable pub putRows : List ℕ → ℕ → List Row → List ℕ
-putRows t i [] = t
-putRows t i (r ∷ rs) = putRows (putRow w t i r) (suc i) rs
-
--- what stands behind a row that was put is what stood there
-behind : (t : List ℕ) (i : ℕ) (r : Row) → length r ≡ w → i * w + w ≤ length t → (m : ℕ) → (i + 1) * w ≤ m → drop m (putRow w t i r) ≡ drop m t
-behind t i r l h m g =
-    let d : m ≡ (i + 1) * w + (m - (i + 1) * w) = omega arith in
-    rw (
-      d,
-      ← (drop-drop (m - (i + 1) * w) ((i + 1) * w) (putRow w t i r)),
-      ← (drop-drop (m - (i + 1) * w) ((i + 1) * w) t),
-      put-behind w t i r l h,
-    )
-
--- what stands before and behind them is kept
-pub rows-put : (rs : List Row) → Each (Used w) rs → (t : List ℕ) (i : ℕ) → (i + length rs) * w ≤ length t
-    → putRows t i rs ≡ take (i * w) t ++ (joined rs ++ drop ((i + length rs) * w) t)
-unfolding putRows joined
-rows-put [] u t i h = rw add-zero (sym (take-append-drop (i * w) t))
-rows-put (r ∷ rs) u t i h =
-    let g : i * w + w ≤ length t = omega arith in
-    let s : suc i + length rs ≡ i + suc (length rs) = omega arith in
-    let k : (suc i + length rs) * w ≤ length (putRow w t i r) = omega (arith, length-put w t i r (u .0 .0) g) in
-    rows-put rs (u .1) (putRow w t i r) (suc i) k
-    ∙ rw (
-      s,
-      behind t i r (u .0 .0) g ((i + suc (length rs)) * w) (omega arith),
-      ← add-one,
-      put-front w t i r (u .0 .0) g,
-      append-assoc,
-      append-assoc,
-    )
 
 -- one row, and what it holds
 pub line-put : (t to : List ℕ) (i : ℕ) (row r : Row) → to ≡ putRow w t i row → row ≡ r → to ≡ putRow w t i r
@@ -79,7 +43,7 @@ pub record Writing (form : Form) (b was is : List ℕ) (k n start at done : ℕ)
   pub each : all (legible form) (lines (drop at b)) ≡ true
   pub kept : length is ≡ length was
   pub left :
-      putRows was start (blockRowsFrom form n k 1 (lines b)) ≡ putRows is (start + done) (blockRowsFrom form n k (suc done) (lines (drop at b)))
+      putRows w was start (blockRowsFrom form n k 1 (lines b)) ≡ putRows w is (start + done) (blockRowsFrom form n k (suc done) (lines (drop at b)))
 
 whole-count : (form : Form) (b : List ℕ) (k n : ℕ) → WholeBlock form b k n → length (lines b) ≡ k
 whole-count form b k n x = omega (arith, x .counted, ap length (block-lines b (x .some)))
@@ -136,7 +100,8 @@ write-end form b was is k n start at done p x h =
     let m : members (asBlock b) ≡ lines b = block-lines b (p .whole .some) in
     let r : blockRowsFrom form n k 1 (lines b) ≡ blockRows form (asBlock b) = rw (← m, c, v) in
     let q : length (blockRowsFrom form n k 1 (lines b)) ≡ k = rows-count form n k 1 (lines b) ∙ whole-count form b k n (p .whole) in
-    let z : putRows is (start + done) (blockRowsFrom form n k (suc done) (lines (drop at b))) ≡ is = rw (lines-end b at h) in
+    let z : putRows w is (start + done) (blockRowsFrom form n k (suc done) (lines (drop at b))) ≡ is = rw (lines-end b at h) in
+    let rows = blockRowsFrom form n k 1 (lines b) in
     sym z ∙ sym (x .left)
-    ∙ rows-put (blockRowsFrom form n k 1 (lines b)) (rows-used form n k 1 (lines b) (p .whole .each)) was start (rw q (p .room))
+    ∙ rows-put w rows (used-wide w rows (rows-used form n k 1 (lines b) (p .whole .each))) was start (rw q (p .room))
     ∙ rw (q, r)

@@ -4,12 +4,13 @@ use mathlib.Core.Path.{_≡_, refl, ap, sym, _∙_}
 use mathlib.Core.List.{List}
 use mathlib.Core.Bool.{Bool, true, false, _&&_, not}
 use native.Mathlib.Omega.{arith}
-use lib.Dec.{leb}
+use lib.Dec.{leb, ltb}
 use Rattle.iff.specs.Days.{span, longest}
 use Rattle.iff.specs.Files.{PerFile}
 use Rattle.iff.specs.Refusals.{orTest, firstTest, unless}
 use Rattle.iff.specs.Tables.{Row, rowWidth, rowsIn}
 use Rattle.iff.specs.Words as words
+use Rattle.iff.specs.Words.{stopCount}
 use Rattle.iff.specs.declared.File.the-variants.{Delivery, Timetbls}
 use Rattle.iff.specs.declared.Reason.{Reason}
 use Rattle.iff.specs.declared.Reason.the-variants.{NoService, NoStop, NoDate}
@@ -18,19 +19,18 @@ use Rattle.iff.specs.declared.Test.the-variants.{Passes, Fails}
 use Rattle.iff_rules.specs.Rows.{firstOf}
 use Rattle.iff_rules.specs.Legs.{stopsOf}
 use Rattle.iff_desk.specs.Store.{groupOf, serviceRows, isEmpty, isValid, firstDay, lastDay, dayOn}
-use Rattle.iff_desk.specs.Running.{asked, isLeg}
+use Rattle.iff_desk.specs.Running.{asked}
 use Rattle.iff_desk.specs.Changing.{Side, precheck}
 use Rattle.calendar.proofs.DayLaws.{day-in-span}
-use Rattle.store.specs.Found.{rowsOf, GroupAt}
+use Rattle.store.specs.Found.{rowsOf, BlocksTold}
 use Rattle.store.specs.declared.Part.{Part}
 use Rattle.changing.specs.Agree.{FewDays}
-use Rattle.changing.specs.Sides.{askedFrom, askedTo}
+use Rattle.changing.specs.Sides.{PartFor, askedFrom, askedTo}
 
--- a service's rows are those of its group
-module _ (R : PerFile (List Row)) (used : ℕ) (tt : List ℕ) (e : R .timetbls ≡ rowsIn Timetbls tt) (A : Side) (p : Part)
-    (g : GroupAt Timetbls used tt (A .service) p) where
+-- a service's rows are those of its part
+module _ (R : PerFile (List Row)) (tt : List ℕ) (e : R .timetbls ≡ rowsIn Timetbls tt) (A : Side) (p : Part) (g : PartFor tt (A .service) p) where
   pub rows-found : serviceRows R (A .service) ≡ rowsOf (rowWidth Timetbls) tt p
-  rows-found = ap (groupOf (A .service)) e ∙ g .is
+  rows-found = ap (groupOf (A .service)) e ∙ g .rows
 
   pub right-from : (n : ℕ) → n ≡ stopsOf (rowsOf (rowWidth Timetbls) tt p) → (right : Bool) → right ≡ (leb 2 (A .stop) && leb (A .stop) n)
       → asked R (A .service) right (A .date) ≡ askedFrom R A
@@ -38,9 +38,16 @@ module _ (R : PerFile (List Row)) (used : ℕ) (tt : List ℕ) (e : R .timetbls 
       ap (λ (b : Bool). asked R (A .service) b (A .date))
       (h ∙ ap (λ (m : ℕ). leb 2 (A .stop) && leb (A .stop) m) (q ∙ ap stopsOf (sym rows-found)))
 
-  pub right-to : (right : Bool) → right ≡ isLeg (rowsOf (rowWidth Timetbls) tt p) (A .stop) → asked R (A .service) right (A .date) ≡ askedTo R A
-  right-to right h =
-      ap (λ (b : Bool). asked R (A .service) b (A .date)) (h ∙ ap (λ (rs : List Row). isLeg rs (A .stop)) (sym rows-found))
+  pub right-to : (n : ℕ) → n ≡ stopsOf (rowsOf (rowWidth Timetbls) tt p) → (right : Bool) → right ≡ (leb 1 (A .stop) && ltb (A .stop) n)
+      → asked R (A .service) right (A .date) ≡ askedTo R A
+  right-to n q right h =
+      ap (λ (b : Bool). asked R (A .service) b (A .date))
+      (h ∙ ap (λ (m : ℕ). leb 1 (A .stop) && ltb (A .stop) m) (q ∙ ap stopsOf (sym rows-found)))
+
+-- and the first of them tells its stops
+pub stops-first : (tt : List ℕ) → BlocksTold tt → (service : ℕ) (p : Part) → PartFor tt service p
+    → stopsOf (rowsOf (rowWidth Timetbls) tt p) ≡ stopCount (firstOf (rowsOf (rowWidth Timetbls) tt p))
+stops-first tt b service p g = rw (g .rows) at (b .stops service)
 
 -- A, then B
 module _ (R : PerFile (List Row)) (A B : Side) where

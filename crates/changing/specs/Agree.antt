@@ -2,6 +2,7 @@
 use Prim.Native.Nat.{ℕ, _≤_}
 use mathlib.Core.Path.{_≡_}
 use mathlib.Core.List.{List}
+use lib.ListN.{length}
 use Rattle.iff.specs.Files.{PerFile}
 use Rattle.iff.specs.Days.{span, longest}
 use Rattle.iff.specs.Tables.{Row, rowsIn}
@@ -13,7 +14,8 @@ use Rattle.iff_rules.specs.Rows.{firstOf}
 use Rattle.iff_desk.specs.declared.TimeOf.{TimeOf}
 use Rattle.iff_desk.specs.declared.ToldTime.{ToldTime}
 use Rattle.iff_desk.specs.declared.ToldTime.the-variants.{Told}
-use Rattle.store.specs.Found.{Stored}
+use Rattle.slots.specs.Slots.{Index}
+use Rattle.store.specs.Found.{Stored, BlocksTold}
 use Rattle.zone_times.specs.Clocks.{FewMinutes}
 use Rattle.day_times.specs.Told.{FewHours}
 use Rattle.needed_times.specs.declared.StoreCounts.{StoreCounts}
@@ -36,7 +38,7 @@ pub record RowsOf (R : PerFile (List Row)) (d tz st fo tt ch xf xc : List ℕ) :
   pub needs : NeedRows R ch xf xc
 
 -- WHAT A CHANGE LEANS ON of sound tables: their rows in use are counted and their keys are unique; the hours of a zone are two digits; a delivery
--- is no longer than it may be
+-- is no longer than it may be; a block's `#` row tells its lines and stops; some slots are an index of CHANGES and of XCHANGES
 abbrev pub FewDays : List ℕ → Type 0
 FewDays d = span (firstDay (firstOf (rowsIn Delivery d))) (lastDay (firstOf (rowsIn Delivery d))) ≤ longest
 
@@ -46,16 +48,19 @@ pub record ZonesReady (n : StoreCounts) (d tz st : List ℕ) : Type 0 where
   pub stations : Stored (Rows Stations) (n .stations) st
   pub few : FewHours tz
 
-pub record NeedReady (n : StoreCounts) (ch xf xc : List ℕ) : Type 0 where
+pub record NeedReady (n : StoreCounts) (hs ch xf xc : List ℕ) : Type 0 where
   pub changes : Stored (Groups Changes) (n .changes) ch
   pub xfootnote : Stored (Groups Xfootnote) (n .xfootnote) xf
   pub xchanges : Stored (Groups Xchanges) (n .xchanges) xc
+  pub changesHeads : Index (Groups Changes) ch (n .changes) (length hs) hs
+  pub xchangesHeads : Index (Groups Xchanges) xc (n .xchanges) (length hs) hs
 
-pub record Ready (n : StoreCounts) (d tz st fo tt ch xf xc : List ℕ) : Type 0 where
+pub record Ready (n : StoreCounts) (hs d tz st fo tt ch xf xc : List ℕ) : Type 0 where
   pub zones : ZonesReady n d tz st
   pub footnote : Stored (Groups Footnote) (n .footnote) fo
   pub timetbls : Stored Timetbls (n .timetbls) tt
-  pub needs : NeedReady n ch xf xc
+  pub blocks : BlocksTold tt
+  pub needs : NeedReady n hs ch xf xc
   pub days : FewDays d
 
 -- A TIME that was told, by rows that are those of the tables

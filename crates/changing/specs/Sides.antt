@@ -19,7 +19,8 @@ use Rattle.iff_desk.specs.declared.TimeOf.{TimeOf}
 use Rattle.iff_desk.specs.declared.ToldTime.{ToldTime}
 use Rattle.iff_desk.specs.declared.Change.{Change}
 use Rattle.iff_desk.specs.declared.Early.the-variants.{FromRests, ToRests, StationsDiffer, NobodyAlights, NobodyBoards}
-use Rattle.store.specs.Found.{rowOr, Inside, RowFor}
+use Rattle.store.specs.Found.{rowsOf, rowOr, Inside, RowFor}
+use Rattle.store.specs.declared.Part.{Part}
 use Rattle.needed_times.specs.declared.SideRows.{SideRows}
 use Rattle.needed_times.specs.Needed.{rowsFound, verdictOn}
 use Rattle.changing.specs.declared.Visit.{Visit}
@@ -33,6 +34,11 @@ sideOf v = record { service = v .service; stop = v .stop; date = v .date }
 -- the stop that was found
 abbrev pub stopFound : List ℕ → SideRows → Row
 stopFound t s = rowOr (rowWidth Timetbls) t (s .row)
+
+-- a service's rows, as a part of the table
+pub record PartFor (t : List ℕ) (service : ℕ) (p : Part) : Type 0 where
+  pub rows : groupOf service (rowsIn Timetbls t) ≡ rowsOf (rowWidth Timetbls) t p
+  pub inside : Inside (rowWidth Timetbls) t p
 
 pub record SideFor (t : List ℕ) (c : Call) (s : SideRows) : Type 0 where
   pub rows : groupOf (c .service) (rowsIn Timetbls t) ≡ rowsFound t s

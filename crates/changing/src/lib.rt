@@ -1,8 +1,8 @@
 // "Change: from service A at stop i (2 to n) on its date to B at stop j (1 to n-1) on its date.", of a store that was found sound: a precheck, which
 // answers refusals, and a core, which answers whether the change is a No, a Yes or Unsettled. A table comes with the number of its rows in use, and
-// with places, a hint where keys stand, on which nothing rests. What the answer does not need is not looked for.
+// with places, a hint where keys stand, on which nothing rests; CHANGES and XCHANGES with an exact index of the stations that open their groups. What
+// the answer does not need is not looked for.
 use iff::DayOf;
-use iff::File;
 use iff::Reason;
 use iff::Test;
 use iff::words;
@@ -13,24 +13,28 @@ use iff_desk::TimeOf;
 use iff_desk::ToldTime;
 use needed_times::SideRows;
 use needed_times::StoreCounts;
+use store::Part;
 ghost use mathlib.Core.Path.{_≡_};
 ghost use mathlib.Core.List.{List};
 ghost use mathlib.Core.Bool.{_&&_};
 ghost use Prim.Native.Nat.{_<_};
 ghost use lib.Dec.{leb};
+ghost use lib.ListN.{length};
 ghost use Rattle.iff.specs.Days.{longest};
 ghost use Rattle.iff.specs.Files.{PerFile};
 ghost use Rattle.iff.specs.Tables.{Row, rowWidth, rowsIn};
+ghost use Rattle.iff.specs.declared.Test.the-variants.{Passes};
 ghost use Rattle.iff.specs.declared.RowFile.the-variants.{Stations};
 ghost use Rattle.iff.specs.declared.GroupFile.the-variants.{Footnote, Changes, Xfootnote, Xchanges};
 ghost use Rattle.iff.specs.declared.File.the-variants.{Delivery, Rows, Groups, Timetbls};
 ghost use Rattle.iff_desk.specs.Store.{numberOn};
 ghost use Rattle.iff_desk.specs.Changing.{callOf, gapBetween, coreChange, precheck as precheckOf, changeAfter};
-ghost use Rattle.store.specs.Found.{Stored, Inside};
+ghost use Rattle.slots.specs.Slots.{Index};
+ghost use Rattle.store.specs.Found.{Stored, Inside, BlocksTold};
 ghost use Rattle.zone_times.specs.Clocks.{FewMinutes};
 ghost use Rattle.needed_times.specs.Needed.{rowsFound};
 ghost use Rattle.changing.specs.Agree.{ZoneRows, NeedRows, RowsOf, ZonesReady, NeedReady, Ready};
-ghost use Rattle.changing.specs.Sides.{SideFor, sideOf, stopFound, hurdleOf, runHurdle, stopHurdle, laterHurdle, isSame};
+ghost use Rattle.changing.specs.Sides.{PartFor, SideFor, sideOf, stopFound, hurdleOf, runHurdle, stopHurdle, laterHurdle, isSame};
 ghost use Rattle.changing.specs.Sides.{arrivalFrom, departureTo, verdictBy, judgedOn, laterChange, askedFrom, askedTo};
 
 // One side of a change as it is asked: a service, a stop of it, and a date.
@@ -48,12 +52,19 @@ pub enum FirstNo {
 
 // SIDES
 
-// A service's rows, the row of its stop, and the station there.
-fn find_side(timetbls: &[u64], used: usize, places: &[u32], call: Call) -> SideRows
-    requires { ⌜ Stored Timetbls used (now timetbls) ⌝ }
+// A service's rows.
+fn find_part(timetbls: &[u64], used: usize, places: &[u32], service: u64) -> Part
+    requires { ⌜ Stored Timetbls used (now timetbls) × BlocksTold (now timetbls) ⌝ }
+    ensures { λ r. ⌜ PartFor (now (timetbls .entry)) service r ⌝ }
+{
+    store::find_block(timetbls, used, places, service)
+}
+
+// With them the row of its stop, and the station there.
+fn find_side(timetbls: &[u64], part: Part, call: Call) -> SideRows
+    requires { ⌜ PartFor (now timetbls) (call .service) part ⌝ }
     ensures { λ r. ⌜ SideFor (now (timetbls .entry)) call r ⌝ }
 {
-    let part = store::find_group(File::Timetbls, timetbls, used, places, call.service);
     let row = service_rows::stop_row(timetbls, part, call.stop);
     SideRows {
         part: part,
@@ -150,10 +161,12 @@ fn stop_hurdle(timetbls: &[u64], a: SideRows, b: SideRows, from: Call, to: Call)
     if a.station != b.station {
         return FirstNo::Stops(Early::StationsDiffer);
     }
-    if !written_times::may_alight(timetbls, a.part, from.stop, from.day) {
+    let alight = a.row;
+    if !written_times::may_alight(timetbls, alight) {
         return FirstNo::Stops(Early::NobodyAlights);
     }
-    if !written_times::may_board(timetbls, b.part, to.stop, to.day) {
+    let board = b.row;
+    if !written_times::may_board(timetbls, board) {
         return FirstNo::Stops(Early::NobodyBoards);
     }
     FirstNo::Clear
@@ -197,6 +210,7 @@ fn weighed(
     xfootnotes: &[u64],
     xchanges: &[u64],
     places: &[u32],
+    heads: &[u32],
     counts: StoreCounts,
     arrival: TimeOf,
     departure: TimeOf,
@@ -216,6 +230,8 @@ fn weighed(
         × Stored (Groups Xchanges) (counts .xchanges) (now xchanges)
         × Inside (rowWidth Timetbls) (now timetbls) (a .part)
         × Inside (rowWidth Timetbls) (now timetbls) (b .part)
+        × Index (Groups Changes) (now changes) (counts .changes) (length (now heads)) (now heads)
+        × Index (Groups Xchanges) (now xchanges) (counts .xchanges) (length (now heads)) (now heads)
         ⌝ }
     ensures { λ r. ⌜
         ((R : PerFile (List Row))
@@ -236,6 +252,7 @@ fn weighed(
         xfootnotes,
         xchanges,
         places,
+        heads,
         counts,
         a,
         b,
@@ -254,6 +271,7 @@ fn judged(
     xfootnotes: &[u64],
     xchanges: &[u64],
     places: &[u32],
+    heads: &[u32],
     counts: StoreCounts,
     a: SideRows,
     b: SideRows,
@@ -262,7 +280,7 @@ fn judged(
 ) -> Change
     requires { ⌜
         ZonesReady counts (now delivery) (now zones) (now stations)
-        × NeedReady counts (now changes) (now xfootnotes) (now xchanges)
+        × NeedReady counts (now heads) (now changes) (now xfootnotes) (now xchanges)
         × SideFor (now timetbls) from a
         × SideFor (now timetbls) to b
         × (from .day < longest)
@@ -317,6 +335,7 @@ fn judged(
         xfootnotes,
         xchanges,
         places,
+        heads,
         counts,
         arrival,
         departure,
@@ -327,7 +346,7 @@ fn judged(
     )
 }
 
-// Where it is not one service on one day: the sides are found, then the other hurdles, then the verdict.
+// Where it is not one service on one day: the stops are found, then the other hurdles, then the verdict.
 fn later_change(
     delivery: &[u64],
     zones: &[u64],
@@ -337,16 +356,21 @@ fn later_change(
     changes: &[u64],
     xfootnotes: &[u64],
     xchanges: &[u64],
-    service_places: &[u32],
     places: &[u32],
+    heads: &[u32],
     counts: StoreCounts,
+    a_part: Part,
+    b_part: Part,
     from: Call,
     to: Call,
 ) -> Change
     requires { ⌜
-        Ready counts (now delivery) (now zones) (now stations) (now footnotes) (now timetbls) (now changes) (now xfootnotes) (now xchanges)
+        Ready counts (now heads) (now delivery) (now zones) (now stations) (now footnotes) (now timetbls) (now changes) (now xfootnotes)
+        (now xchanges)
         × (from .day < longest)
         × (to .day < longest)
+        × PartFor (now timetbls) (from .service) «a_part»
+        × PartFor (now timetbls) (to .service) «b_part»
         ⌝ }
     ensures { λ r. ⌜
         ((R : PerFile (List Row))
@@ -355,8 +379,8 @@ fn later_change(
         → r ≡ laterChange R from to)
         ⌝ }
 {
-    let a = find_side(timetbls, counts.timetbls, service_places, from);
-    let b = find_side(timetbls, counts.timetbls, service_places, to);
+    let a = find_side(timetbls, a_part, from);
+    let b = find_side(timetbls, b_part, to);
     match later_hurdle(footnotes, timetbls, places, counts.footnote, a, b, from, to) {
         FirstNo::Stops(early) => Change::NoBefore(early),
         FirstNo::Clear => judged(
@@ -368,6 +392,7 @@ fn later_change(
             xfootnotes,
             xchanges,
             places,
+            heads,
             counts,
             a,
             b,
@@ -377,7 +402,7 @@ fn later_change(
     }
 }
 
-// The core of a change: a service, a stop and a day for either side, on tables that were found sound.
+// The core of a change: a service, its rows, a stop and a day for either side, on tables that were found sound.
 pub fn core_change(
     delivery: &[u64],
     zones: &[u64],
@@ -387,16 +412,21 @@ pub fn core_change(
     changes: &[u64],
     xfootnotes: &[u64],
     xchanges: &[u64],
-    service_places: &[u32],
     places: &[u32],
+    heads: &[u32],
     counts: StoreCounts,
+    a_part: Part,
+    b_part: Part,
     from: Call,
     to: Call,
 ) -> Change
     requires { ⌜
-        Ready counts (now delivery) (now zones) (now stations) (now footnotes) (now timetbls) (now changes) (now xfootnotes) (now xchanges)
+        Ready counts (now heads) (now delivery) (now zones) (now stations) (now footnotes) (now timetbls) (now changes) (now xfootnotes)
+        (now xchanges)
         × (from .day < longest)
         × (to .day < longest)
+        × PartFor (now timetbls) (from .service) «a_part»
+        × PartFor (now timetbls) (to .service) «b_part»
         ⌝ }
     ensures { λ r. ⌜
         ((R : PerFile (List Row))
@@ -417,9 +447,11 @@ pub fn core_change(
         changes,
         xfootnotes,
         xchanges,
-        service_places,
         places,
+        heads,
         counts,
+        a_part,
+        b_part,
         from,
         to,
     )
@@ -437,15 +469,9 @@ fn may_end(stop: u64, stops: u64) -> bool
     false
 }
 
-// 12, 13, 14 for the service changed from.
-fn asked_from(
-    delivery: &[u64],
-    timetbls: &[u64],
-    service_places: &[u32],
-    counts: StoreCounts,
-    v: Visit,
-) -> Test
-    requires { ⌜ Stored Delivery (counts .delivery) (now delivery) × Stored Timetbls (counts .timetbls) (now timetbls) ⌝ }
+// 12, 13, 14 for the service changed from, by its rows.
+fn from_part(delivery: &[u64], used: usize, timetbls: &[u64], part: Part, v: Visit) -> Test
+    requires { ⌜ Stored Delivery used (now delivery) × PartFor (now timetbls) (v .service) part × BlocksTold (now timetbls) ⌝ }
     ensures { λ r. ⌜
         ((R : PerFile (List Row))
         → R .delivery ≡ rowsIn Delivery (now (delivery .entry))
@@ -453,26 +479,13 @@ fn asked_from(
         → r ≡ askedFrom R (sideOf v))
         ⌝ }
 {
-    let part = store::find_group(
-        File::Timetbls,
-        timetbls,
-        counts.timetbls,
-        service_places,
-        v.service,
-    );
-    let right = may_end(v.stop, service_rows::count_stops(timetbls, part));
-    running::asked(delivery, counts.delivery, part, right, v.date)
+    let right = may_end(v.stop, service_rows::stops_told(timetbls, part));
+    running::asked(delivery, used, part, right, v.date)
 }
 
 // And for the one changed to, whose stop is one that a leg begins at: 1 to n - 1.
-fn asked_to(
-    delivery: &[u64],
-    timetbls: &[u64],
-    service_places: &[u32],
-    counts: StoreCounts,
-    v: Visit,
-) -> Test
-    requires { ⌜ Stored Delivery (counts .delivery) (now delivery) × Stored Timetbls (counts .timetbls) (now timetbls) ⌝ }
+fn to_part(delivery: &[u64], used: usize, timetbls: &[u64], part: Part, v: Visit) -> Test
+    requires { ⌜ Stored Delivery used (now delivery) × PartFor (now timetbls) (v .service) part × BlocksTold (now timetbls) ⌝ }
     ensures { λ r. ⌜
         ((R : PerFile (List Row))
         → R .delivery ≡ rowsIn Delivery (now (delivery .entry))
@@ -480,38 +493,32 @@ fn asked_to(
         → r ≡ askedTo R (sideOf v))
         ⌝ }
 {
-    let part = store::find_group(
-        File::Timetbls,
-        timetbls,
-        counts.timetbls,
-        service_places,
-        v.service,
-    );
-    let right = running::is_leg(timetbls, part, v.stop);
-    running::asked(delivery, counts.delivery, part, right, v.date)
+    let right = running::is_leg(v.stop, service_rows::stops_told(timetbls, part));
+    running::asked(delivery, used, part, right, v.date)
 }
 
-// 12, 13, 14 for A, then for B.
-pub fn precheck(
+// The first of them alone, where the service changed to is known not to be there.
+pub fn asked_from(
     delivery: &[u64],
     timetbls: &[u64],
     service_places: &[u32],
     counts: StoreCounts,
-    from: Visit,
-    to: Visit,
+    v: Visit,
 ) -> Test
-    requires { ⌜ Stored Delivery (counts .delivery) (now delivery) × Stored Timetbls (counts .timetbls) (now timetbls) ⌝ }
+    requires { ⌜
+        Stored Delivery (counts .delivery) (now delivery)
+        × Stored Timetbls (counts .timetbls) (now timetbls)
+        × BlocksTold (now timetbls)
+        ⌝ }
     ensures { λ r. ⌜
         ((R : PerFile (List Row))
         → R .delivery ≡ rowsIn Delivery (now (delivery .entry))
         → R .timetbls ≡ rowsIn Timetbls (now (timetbls .entry))
-        → r ≡ precheckOf R (sideOf from) (sideOf to))
+        → r ≡ askedFrom R (sideOf v))
         ⌝ }
 {
-    match asked_from(delivery, timetbls, service_places, counts, from) {
-        Test::Fails(reason) => Test::Fails(reason),
-        Test::Passes => asked_to(delivery, timetbls, service_places, counts, to),
-    }
+    let part = find_part(timetbls, counts.timetbls, service_places, v.service);
+    from_part(delivery, counts.delivery, timetbls, part, v)
 }
 
 // A side with its date as the day counted from the first day.
@@ -526,8 +533,8 @@ fn call_of(delivery: &[u64], used: usize, v: Visit) -> Call
     }
 }
 
-// A change, on tables that were found sound: the precheck, then the core.
-pub fn change_in(
+// Where A is right, by its rows: 12, 13, 14 for B, then the core.
+fn change_to(
     delivery: &[u64],
     zones: &[u64],
     stations: &[u64],
@@ -538,11 +545,21 @@ pub fn change_in(
     xchanges: &[u64],
     service_places: &[u32],
     places: &[u32],
+    heads: &[u32],
     counts: StoreCounts,
+    a_part: Part,
     from: Visit,
     to: Visit,
 ) -> Change
-    requires { ⌜ Ready counts (now delivery) (now zones) (now stations) (now footnotes) (now timetbls) (now changes) (now xfootnotes) (now xchanges) ⌝ }
+    requires { ⌜
+        Ready counts (now heads) (now delivery) (now zones) (now stations) (now footnotes) (now timetbls) (now changes) (now xfootnotes)
+        (now xchanges)
+        × PartFor (now timetbls) (from .service) «a_part»
+        × ((R : PerFile (List Row))
+        → R .delivery ≡ rowsIn Delivery (now delivery)
+        → R .timetbls ≡ rowsIn Timetbls (now timetbls)
+        → askedFrom R (sideOf from) ≡ Passes)
+        ⌝ }
     ensures { λ r. ⌜
         ((R : PerFile (List Row))
         → RowsOf R (now (delivery .entry)) (now (zones .entry)) (now (stations .entry)) (now (footnotes .entry)) (now (timetbls .entry))
@@ -550,7 +567,8 @@ pub fn change_in(
         → r ≡ changeAfter (precheckOf R (sideOf from) (sideOf to)) (coreChange R (callOf R (sideOf from)) (callOf R (sideOf to))))
         ⌝ }
 {
-    match precheck(delivery, timetbls, service_places, counts, from, to) {
+    let b_part = find_part(timetbls, counts.timetbls, service_places, to.service);
+    match to_part(delivery, counts.delivery, timetbls, b_part, to) {
         Test::Fails(reason) => Change::ChangeRefused(reason),
         Test::Passes => {
             let a = call_of(delivery, counts.delivery, from);
@@ -564,12 +582,65 @@ pub fn change_in(
                 changes,
                 xfootnotes,
                 xchanges,
-                service_places,
                 places,
+                heads,
                 counts,
+                a_part,
+                b_part,
                 a,
                 b,
             )
         }
+    }
+}
+
+// A change, on tables that were found sound: 12, 13, 14 for A, then for B, then the core. Either service is looked for once.
+pub fn change_in(
+    delivery: &[u64],
+    zones: &[u64],
+    stations: &[u64],
+    footnotes: &[u64],
+    timetbls: &[u64],
+    changes: &[u64],
+    xfootnotes: &[u64],
+    xchanges: &[u64],
+    service_places: &[u32],
+    places: &[u32],
+    heads: &[u32],
+    counts: StoreCounts,
+    from: Visit,
+    to: Visit,
+) -> Change
+    requires { ⌜
+        Ready counts (now heads) (now delivery) (now zones) (now stations) (now footnotes) (now timetbls) (now changes) (now xfootnotes)
+        (now xchanges)
+        ⌝ }
+    ensures { λ r. ⌜
+        ((R : PerFile (List Row))
+        → RowsOf R (now (delivery .entry)) (now (zones .entry)) (now (stations .entry)) (now (footnotes .entry)) (now (timetbls .entry))
+        (now (changes .entry)) (now (xfootnotes .entry)) (now (xchanges .entry))
+        → r ≡ changeAfter (precheckOf R (sideOf from) (sideOf to)) (coreChange R (callOf R (sideOf from)) (callOf R (sideOf to))))
+        ⌝ }
+{
+    let a_part = find_part(timetbls, counts.timetbls, service_places, from.service);
+    match from_part(delivery, counts.delivery, timetbls, a_part, from) {
+        Test::Fails(reason) => Change::ChangeRefused(reason),
+        Test::Passes => change_to(
+            delivery,
+            zones,
+            stations,
+            footnotes,
+            timetbls,
+            changes,
+            xfootnotes,
+            xchanges,
+            service_places,
+            places,
+            heads,
+            counts,
+            a_part,
+            from,
+            to,
+        ),
     }
 }

@@ -10,6 +10,7 @@ use Rattle.iff.specs.declared.GroupFile.the-variants.{Timezone, Footnote, Chang
 use Rattle.iff.specs.declared.File.{File}
 use Rattle.iff.specs.declared.File.the-variants.{Delivery, Rows, Groups, Timetbls}
 use Rattle.iff_desk.specs.Sound.{distinct}
+use Rattle.store.specs.Found.{BlocksTold}
 use Rattle.day_times.specs.Told.{FewHours}
 use Rattle.changing.specs.Agree.{FewDays}
 use Rattle.needed_times.specs.declared.StoreCounts.{StoreCounts}
@@ -18,7 +19,7 @@ use Rattle.needed_times.specs.declared.StoreCounts.{StoreCounts}
 abbrev pub Once : File → List ℕ → Type 0
 Once f t = distinct (keysOf f (rowsIn f t)) ≡ true
 
--- the tables that a change reads, each key once, and numbers that their fields can hold
+-- the tables that a change reads, each key once, blocks that tell their lines and stops, and numbers that their fields can hold
 pub record Leant (d tz st fo tt ch xf xc : List ℕ) : Type 0 where
   pub delivery : Once Delivery d
   pub timezone : Once (Groups Timezone) tz
@@ -28,6 +29,7 @@ pub record Leant (d tz st fo tt ch xf xc : List ℕ) : Type 0 where
   pub changes : Once (Groups Changes) ch
   pub xfootnote : Once (Groups Xfootnote) xf
   pub xchanges : Once (Groups Xchanges) xc
+  pub blocks : BlocksTold tt
   pub hours : FewHours tz
   pub days : FewDays d
 

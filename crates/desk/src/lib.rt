@@ -247,6 +247,8 @@ fn change_there(
         xfootnote,
         xchanges,
     );
+    // One question does not pay for an index of the stations in CHANGES and XCHANGES: no slots.
+    let heads = &places[0..0];
     changing::change_in(
         delivery,
         timezone,
@@ -258,6 +260,7 @@ fn change_there(
         xchanges,
         places,
         places,
+        heads,
         counts,
         from,
         to,

@@ -8,7 +8,7 @@ use lib.IntN.{ℤ, pos, negsuc}
 use Rattle.iff.specs.Refusals.{number}
 use Rattle.iff.specs.declared.Reason.{Reason}
 use Rattle.iff.specs.declared.Reason.the-variants.{TooLong, NoRoom, Absent, Layout, Value, FirstLine, Order, Duplicate, Reference, Legs, NotOneBlock}
-use Rattle.iff.specs.declared.Reason.the-variants.{NoService, NoStop, NoDate, NoPeriod, NotSound, NoStation}
+use Rattle.iff.specs.declared.Reason.the-variants.{NoService, NoStop, NoDate, NoPeriod, NotSound, NoStation, ShortList}
 use Rattle.iff.specs.declared.GroupFile.the-variants.{Footnote}
 use Rattle.iff.specs.declared.File.the-variants.{Groups, Timetbls}
 use Rattle.iff.specs.declared.Place.the-variants.{Nowhere, At}
@@ -43,7 +43,7 @@ use Rattle.desk_cases.specs.StopCases.{time, times}
 abbrev reasons : List Reason
 reasons =
     TooLong ∷ NoRoom ∷ Absent ∷ Layout ∷ Value ∷ FirstLine ∷ Order ∷ Duplicate ∷ Reference ∷ Legs ∷ NotOneBlock ∷ NoService ∷ NoStop
-    ∷ NoDate ∷ NoPeriod ∷ NotSound ∷ NoStation ∷ []
+    ∷ NoDate ∷ NoPeriod ∷ NotSound ∷ NoStation ∷ ShortList ∷ []
 
 -- the place of refusals 11 to 17, and of an answer
 abbrev zeros : List ℕ
@@ -59,7 +59,7 @@ part t = (partNumber t, place (partPlace t))
 
 abbrev pub refusals : List Claim
 refusals =
-    claim "the numbers" (map number reasons) (1 ∷ 2 ∷ 3 ∷ 4 ∷ 5 ∷ 6 ∷ 7 ∷ 8 ∷ 9 ∷ 10 ∷ 11 ∷ 12 ∷ 13 ∷ 14 ∷ 15 ∷ 16 ∷ 17 ∷ []) ∷
+    claim "the numbers" (map number reasons) (1 ∷ 2 ∷ 3 ∷ 4 ∷ 5 ∷ 6 ∷ 7 ∷ 8 ∷ 9 ∷ 10 ∷ 11 ∷ 12 ∷ 13 ∷ 14 ∷ 15 ∷ 16 ∷ 17 ∷ 23 ∷ []) ∷
     -- "an accepted load or amendment answers days and services"
     claim "accepted" (loaded (Accepted 364 17)) (0, zeros, 364, 17) ∷
     claim "refused at a file" (loaded (Refused NoRoom (At Timetbls 0 0))) (2, TIMETBLS ∷ 0 ∷ 0 ∷ [], 0, 0) ∷

@@ -1,5 +1,5 @@
-// What XCHANGES says of a change at a station: the best exception that applies. A table comes with the number of its rows in use, and with places,
-// a hint where keys stand, on which nothing rests.
+// What XCHANGES says of a change at a station: the best exception that applies. A table comes with the number of its rows in use; XCHANGES with an
+// exact index of the stations that open its groups, and XFOOTNOTE with places, a hint where keys stand, on which nothing rests.
 use iff::File;
 use iff::GroupFile;
 use iff_desk::Best;
@@ -16,6 +16,7 @@ ghost use Rattle.iff.specs.declared.File.the-variants.{Groups};
 ghost use Rattle.iff_desk.specs.Changing.{best as bestOf, bestAt};
 ghost use Rattle.iff_desk.specs.declared.Best.the-variants.{NoBest};
 ghost use Rattle.keys.specs.Blocks.{rowsBetween};
+ghost use Rattle.slots.specs.Slots.{Index};
 ghost use Rattle.store.specs.Found.{Stored};
 ghost use Rattle.exception_rows.specs.Rows.{appliesBy};
 
@@ -55,12 +56,17 @@ pub fn best_at(
     xfootnotes: &[u64],
     footnotes_used: usize,
     places: &[u32],
+    heads: &[u32],
     station: u64,
     a: Riding,
     b: Riding,
     day: u64,
 ) -> Best
-    requires { ⌜ Stored (Groups Xchanges) used (now xchanges) × Stored (Groups Xfootnote) «footnotes_used» (now xfootnotes) ⌝ }
+    requires { ⌜
+        Stored (Groups Xchanges) used (now xchanges)
+        × Stored (Groups Xfootnote) «footnotes_used» (now xfootnotes)
+        × Index (Groups Xchanges) (now xchanges) used (length (now heads)) (now heads)
+        ⌝ }
     ensures { λ r. ⌜
         ((R : PerFile (List Row))
         → R .xchanges ≡ rowsIn (Groups Xchanges) (now (xchanges .entry))
@@ -68,11 +74,11 @@ pub fn best_at(
         → r ≡ bestAt R station a b day)
         ⌝ }
 {
-    let group = store::find_group(
+    let group = store::find_group_surely(
         File::Groups(GroupFile::Xchanges),
         xchanges,
         used,
-        places,
+        heads,
         station,
     );
     best_in(

@@ -8,12 +8,15 @@ use Rattle.iff.specs.Lines.{lines}
 use Rattle.iff.specs.declared.File.{File}
 use Rattle.iff_rules.specs.Load.{loadAnswer, loadTable}
 use Rattle.iff_desk.specs.Amend.{amendAnswer, amendTimetbls}
+use Rattle.iff_desk.specs.Answers.{partNumber}
+use Rattle.iff_desk.specs.Sheet.{sheetTest}
 use Rattle.iff_desk.specs.Parts.{name, nameTest, isOneBlock, linesNow, linesNowTest}
 use Rattle.iff_desk.specs.declared.StopTime.{StopTime}
 use Rattle.iff_desk.specs.declared.Change.{Change}
 use Rattle.numbers.specs.Numbers.{answerWords}
 use Rattle.question_numbers.specs.Numbers.{partWords, linesWords, stopTimeWords, stopTimeMinutes}
 use Rattle.change_numbers.specs.Numbers.{changeWords, changeGap}
+use Rattle.sheet_answers.specs.Words.{sheetList}
 use Rattle.parts.specs.Bounds.{partOf, Inside}
 use Rattle.station_names.specs.Names.{namePart}
 use Rattle.service_lines.specs.Bounds.{textNow, partNow}
@@ -49,3 +52,8 @@ pub record TimedInNumbers (a : StopTime) (words : List ℕ) (minutes : List ℤ)
 pub record ChangedInNumbers (a : Change) (words : List ℕ) (minutes : List ℤ) : Type 0 where
   pub answers : words ≡ changeWords a
   pub gap : minutes ≡ changeGap a
+
+-- A SHEET: the refusal's number, 0 where every question is answered, and the lent list
+pub record SheetedInNumbers (T : PerFile (List ℕ)) (qs list : List ℕ) (number : ℕ) (after : List ℕ) : Type 0 where
+  pub tells : number ≡ partNumber (sheetTest T qs list)
+  pub leaves : after ≡ sheetList T qs list

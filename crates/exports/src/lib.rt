@@ -9,7 +9,7 @@ ghost use Rattle.iff_desk.specs.Running.{runningDay};
 ghost use Rattle.iff_desk.specs.Stops.{stopTime};
 ghost use Rattle.iff_desk.specs.Changing.{change as changeTo, rank as rankBy};
 ghost use Rattle.question_numbers.specs.Numbers.{soundNumber, runningWords};
-ghost use Rattle.exports.specs.Exported.{LoadedInNumbers, AmendedInNumbers, NamedInNumbers, LinesInNumbers, TimedInNumbers, ChangedInNumbers};
+ghost use Rattle.exports.specs.Exported.{LoadedInNumbers, AmendedInNumbers, NamedInNumbers, LinesInNumbers, TimedInNumbers, ChangedInNumbers, SheetedInNumbers};
 
 // A load: eleven files, eleven tables, and where the answer goes. It asks nothing of them.
 #[no_mangle]
@@ -327,6 +327,48 @@ pub extern "C" fn calyxcabin_change(
     );
     *answer = change_numbers::change_words(told);
     *gap = change_numbers::change_gap(told);
+}
+
+// Sheet: eleven tables, a list of changes, six words each, and the list that the answers go into, eight words each: a change's seven and its gap as a
+// signed number. 0, or the refusal: 16, or 23 where there is room for fewer answers than questions; then no answer is written.
+#[no_mangle]
+pub extern "C" fn calyxcabin_sheet(
+    delivery: &[u64],
+    company: &[u64],
+    country: &[u64],
+    trnsmode: &[u64],
+    timezone: &[u64],
+    stations: &[u64],
+    footnote: &[u64],
+    timetbls: &[u64],
+    changes: &[u64],
+    xfootnote: &[u64],
+    xchanges: &[u64],
+    questions: &[u64],
+    answers: &mut [u64],
+) -> u64
+    ensures { λ r. ⌜ SheetedInNumbers
+        (eleven (now (delivery .entry)) (now (company .entry)) (now (country .entry)) (now (trnsmode .entry)) (now (timezone .entry))
+        (now (stations .entry)) (now (footnote .entry)) (now (timetbls .entry)) (now (changes .entry)) (now (xfootnote .entry))
+        (now (xchanges .entry)))
+        (now (questions .entry)) (now (answers .entry)) r (now (answers .exit)) ⌝ }
+{
+    let told = sheets::sheet(
+        delivery,
+        company,
+        country,
+        trnsmode,
+        timezone,
+        stations,
+        footnote,
+        timetbls,
+        changes,
+        xfootnote,
+        xchanges,
+        questions,
+        answers,
+    );
+    question_numbers::part_number(told)
 }
 
 // The rank of an exception by its four keys as the table of XCHANGES has them: its pattern's place on the desk's card. It asks no table.

@@ -4,7 +4,7 @@ use mathlib.Core.List.{List, [], _∷_}
 use mathlib.Core.Bool.{Bool, true, false}
 use Rattle.iff.specs.declared.File.{File}
 use Rattle.iff.specs.declared.Reason.{Reason}
-use Rattle.iff.specs.declared.Reason.the-variants.{TooLong, NoRoom, Absent, Layout, Value, FirstLine, Order, Duplicate, Reference, Legs, NotOneBlock, NoService, NoStop, NoDate, NoPeriod, NotSound, NoStation}
+use Rattle.iff.specs.declared.Reason.the-variants.{TooLong, NoRoom, Absent, Layout, Value, FirstLine, Order, Duplicate, Reference, Legs, NotOneBlock, NoService, NoStop, NoDate, NoPeriod, NotSound, NoStation, ShortList}
 use Rattle.iff.specs.declared.Place.{Place}
 use Rattle.iff.specs.declared.Place.the-variants.{Nowhere, At}
 use Rattle.iff.specs.declared.Test.{Test}
@@ -33,6 +33,7 @@ number NoDate = 14
 number NoPeriod = 15
 number NotSound = 16
 number NoStation = 17
+number ShortList = 23
 
 -- a place's ordinal and line; 0, 0 where there is none
 abbrev pub ordinal : Place → ℕ

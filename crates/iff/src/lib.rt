@@ -66,7 +66,7 @@ pub enum Record {
     ChangeException,
 }
 
-// Why something is refused: refusals 1 to 17, in the paper's order.
+// Why something is refused: refusals 1 to 17 and, of the requests, 23, in the paper's order.
 pub enum Reason {
     TooLong,
     NoRoom,
@@ -85,6 +85,7 @@ pub enum Reason {
     NoPeriod,
     NotSound,
     NoStation,
+    ShortList,
 }
 
 // Where: a file, a block's ordinal and a line; or nowhere, for the refusals whose place is 0, 0, 0.

@@ -7,3 +7,4 @@ pub mod Card
 pub mod Changing
 pub mod Parts
 pub mod Amend
+pub mod Sheet

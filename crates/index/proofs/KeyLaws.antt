@@ -25,10 +25,10 @@ use Rattle.fresh_keys.proofs.Runs.{run-next, run-rises}
 use Rattle.index.specs.Told.{KeysTold}
 use Rattle.slots.specs.Slots.{namesAt, keyAt, keysBetween}
 use Rattle.slot_puts.specs.Puts.{AtRow, KeyPut}
-use Rattle.index.specs.Keying.{allNew, Told, RowPut, Indexed}
+use Rattle.index.specs.Keying.{allNew, Told, RowPut, Indexed, KeysPut}
 use Rattle.index.specs.declared.Next.{Next}
 use Rattle.index.specs.declared.Next.the-variants.{Came, Goes}
-use Rattle.slots.proofs.SlotLaws.{starts, one-more}
+use Rattle.slots.proofs.SlotLaws.{starts, one-more, fewer-rows, kept-same, kept-then}
 
 -- ROW BY ROW
 keys-key : (f : File) (r : Row) (rs : List Row) → isKeyRow f r ≡ true → keysOf f (r ∷ rs) ≡ word r (keyWord f) ∷ keysOf f rs
@@ -158,6 +158,7 @@ module _ (f : File) (t : List ℕ) (run : KeyRun) (i : ℕ) (ps : List ℕ) wher
         told = λ next q used h x. let z : run ≡ next = cc in rw (← z) (told-none f t used run i h x e);
         runs = λ next q g. let z : run ≡ next = cc in rw (← z) (g ∙ sym (ap runOf (seen-none f t i i e)));
         index = λ next q. one-more f t i (length ps) ps (a .index) (λ n. absurd (true≢false (sym n ∙ e)));
+        kept = kept-same ps;
       }
 
   module _ (key : ℕ) (qs : List ℕ) (b : Bool) (p : KeyPut f t i key ps qs b) (e : namesAt f t i ≡ true) (is : key ≡ keyAt f t i) where
@@ -174,6 +175,7 @@ module _ (f : File) (t : List ℕ) (run : KeyRun) (i : ℕ) (ps : List ℕ) wher
               z ∙ (ap (λ (s : KeyRun). stepRun s (keyAt f t i)) g
               ∙ sym (ap runOf (seen-key f t i i e) ∙ run-next (keysBetween f t 0 i) (keyAt f t i))));
           index = λ m q. p .index y;
+          kept = p .kept;
         }
 
     pub row-came : b ≡ false → RowPut f t run i ps qs Came
@@ -184,6 +186,7 @@ module _ (f : File) (t : List ℕ) (run : KeyRun) (i : ℕ) (ps : List ℕ) wher
           told = λ m q. absurd (let z : _≡_ {A = ℕ} 0 1 = cc in omega arith);
           runs = λ m q. absurd (let z : _≡_ {A = ℕ} 0 1 = cc in omega arith);
           index = λ m q. absurd (let z : _≡_ {A = ℕ} 0 1 = cc in omega arith);
+          kept = p .kept;
         }
 
 -- ALL ROWS
@@ -196,6 +199,7 @@ module _ (f : File) (used : ℕ) (t ps : List ℕ) where
         told = rw n (told-first f t used r e);
         runs = n ∙ sym (ap runOf (none-seen f t used e));
         index = starts f t (length ps) ps refl;
+        kept = kept-same ps;
       }
 
   module _ (run : KeyRun) (i : ℕ) (qs : List ℕ) (x : Indexed f used t ps run i qs) where
@@ -218,10 +222,16 @@ module _ (f : File) (used : ℕ) (t ps : List ℕ) where
             told = p .told next q used h (x .told);
             runs = p .runs next q (x .runs);
             index = rw (x .index .wide) at (p .index next q);
+            kept = kept-then (x .kept) (p .kept);
           })
 
-      pub again-told : r ≡ Came → KeysTold (keysAmong f used t) (record { distinct = false; rise = false }) × (length ms ≡ length ps)
-      again-told q = (told-again f t used false (p .came q used h (x .told)), p .wide ∙ x .index .wide)
+      pub again-told : r ≡ Came → KeysPut f used t ps ms (record { distinct = false; rise = false })
+      again-told q = (
+        told-again f t used false (p .came q used h (x .told)),
+        p .wide ∙ x .index .wide,
+        (λ d. absurd (false≢true d)),
+        kept-then (x .kept) (p .kept),
+      )
 
     -- rows that name nothing are gone over
     none-named : i < used → namesAt f t i ≡ false → Indexed f used t ps run (suc i) qs
@@ -231,10 +241,11 @@ module _ (f : File) (used : ℕ) (t ps : List ℕ) where
           told = told-none f t used run i h (x .told) e;
           runs = x .runs ∙ sym (ap runOf (seen-none f t used i e));
           index = one-more f t i (length ps) qs (x .index) (λ n. absurd (true≢false (sym n ∙ e)));
+          kept = x .kept;
         }
 
-    pub all-told : used ≤ i → KeysTold (keysAmong f used t) (record { distinct = true; rise = run .rises }) × (length qs ≡ length ps)
-    all-told h = (told-all f t used run i h (x .told), x .index .wide)
+    pub all-told : used ≤ i → KeysPut f used t ps qs (record { distinct = true; rise = run .rises })
+    all-told h = (told-all f t used run i h (x .told), x .index .wide, (λ d. fewer-rows f t i used (length ps) qs h (x .index)), x .kept)
 
   -- so are some of them at once
   pub none-between : (run : KeyRun) (qs : List ℕ) (i to : ℕ) → i ≤ to → to ≤ used → ((j : ℕ) → i ≤ j → j < to → namesAt f t j ≡ false)

@@ -4,11 +4,9 @@ ghost use mathlib.Core.Bool.{false};
 ghost use Prim.Native.Nat.{_*_, _≤_};
 ghost use lib.ListN.{length};
 ghost use Rattle.iff.specs.Tables.{rowWidth};
-ghost use Rattle.keys.specs.Lookup.{keysAmong};
-ghost use Rattle.index.specs.Told.{KeysTold};
 ghost use Rattle.slots.specs.Slots.{namesAt};
 ghost use Rattle.slot_puts.specs.Puts.{AtRow};
-ghost use Rattle.index.specs.Keying.{RowPut};
+ghost use Rattle.index.specs.Keying.{RowPut, KeysPut};
 
 // What a table's keys are like.
 pub struct KeysAre {
@@ -46,11 +44,11 @@ pub fn index_row(
     Next::Came
 }
 
-// Tells whether the keys of a table are distinct, and whether they rise, and leaves each key's row in its slots, as a hint for later lookups.
-// What stood in the slots before, rows of other tables, does no harm.
+// Tells whether the keys of a table are distinct, and whether they rise, and leaves each key's row in its slots, for later lookups. What stood in the
+// slots before, rows of other tables, does no harm and stays.
 pub fn index_keys(file: iff::File, t: &[u64], used: usize, places: &mut [u32]) -> KeysAre
     requires { ⌜ (used * rowWidth file ≤ length (now t)) × (namesAt file (now t) 0 ≡ false) ⌝ }
-    ensures { λ r. ⌜ KeysTold (keysAmong file used (now (t .entry))) r × (length (now (places .exit)) ≡ length (now (places .entry))) ⌝ }
+    ensures { λ r. ⌜ KeysPut file used (now (t .entry)) (now (places .entry)) (now (places .exit)) r ⌝ }
 {
     let mut run = fresh_keys::no_keys();
     let mut i = 1;

@@ -8,6 +8,7 @@ use iff::tags;
 use iff::words;
 use references::GroupCounts;
 ghost use mathlib.Core.Path.{_≡_};
+ghost use mathlib.Core.Bool.{false};
 ghost use Prim.Native.Nat.{_+_, _*_, _≤_};
 ghost use lib.ListN.{length};
 
@@ -37,15 +38,16 @@ pub fn index_in_lines(text: &[u8], from: usize, services: &[u64], used: usize, p
     places::index_asked(services, used, places);
 }
 
-// Asks for a service that has no place yet, and tells whether any was asked for so far.
-fn ask_missing(
+// Asks for a service that has no place yet, and tells whether any was asked for so far. Where none was, the slots are as they were.
+pub fn ask_missing(
     so_far: bool,
     services: &[u64],
     used: usize,
     places: &mut [u32],
     service: u64,
 ) -> bool
-    ensures { λ _. ⌜ length (now (places .exit)) ≡ length (now (places .entry)) ⌝ }
+    ensures { λ r. ⌜ (length (now (places .exit)) ≡ length (now (places .entry)))
+        × (r ≡ false → («so_far» ≡ false) × (now (places .exit) ≡ now (places .entry))) ⌝ }
 {
     if let RowOf::Row(_) = key_places::found_by_place(
         File::Timetbls,
@@ -71,7 +73,8 @@ fn ask_in_row(
     places: &mut [u32],
 ) -> bool
     requires { ⌜ (6 ≤ w) × (i * w + w ≤ length (now t)) ⌝ }
-    ensures { λ _. ⌜ length (now (places .exit)) ≡ length (now (places .entry)) ⌝ }
+    ensures { λ r. ⌜ (length (now (places .exit)) ≡ length (now (places .entry)))
+        × (r ≡ false → («so_far» ≡ false) × (now (places .exit) ≡ now (places .entry))) ⌝ }
 {
     if tables::word_at(t, w, i, words::TAG) != tags::DASH {
         return so_far;
@@ -82,9 +85,16 @@ fn ask_in_row(
     ask_missing(one, services, used, places, to)
 }
 
-// The same of the first rows of a table, in places that hold many services already: where all that are named are among them, no service is gone through.
-pub fn index_in_rows(t: &[u64], rows: usize, services: &[u64], used: usize, places: &mut [u32])
-    ensures { λ _. ⌜ length (now (places .exit)) ≡ length (now (places .entry)) ⌝ }
+// The same of the first rows of a table, in places that hold many services already: where all that are named are among them, no service is gone
+// through and no slot is changed. It tells whether any was asked for.
+pub fn index_in_rows(
+    t: &[u64],
+    rows: usize,
+    services: &[u64],
+    used: usize,
+    places: &mut [u32],
+) -> bool
+    ensures { λ r. ⌜ (length (now (places .exit)) ≡ length (now (places .entry))) × (r ≡ false → now (places .exit) ≡ now (places .entry)) ⌝ }
 {
     let w = tables::row_width(File::Groups(GroupFile::Changes));
     let end = keys::rows_among(t, w, rows);
@@ -97,6 +107,7 @@ pub fn index_in_rows(t: &[u64], rows: usize, services: &[u64], used: usize, plac
     if asked {
         places::index_asked(services, used, places);
     }
+    asked
 }
 
 // WHAT A FILE NAMES

@@ -12,6 +12,7 @@ use store::Part;
 ghost use mathlib.Core.Path.{_≡_};
 ghost use mathlib.Core.List.{List};
 ghost use Prim.Native.Nat.{_-_};
+ghost use lib.ListN.{length};
 ghost use Rattle.iff.specs.Files.{PerFile};
 ghost use Rattle.iff.specs.Tables.{Row, rowWidth, rowsIn};
 ghost use Rattle.iff.specs.Words.{named, changeFlag, changeTime};
@@ -21,6 +22,7 @@ ghost use Rattle.iff.specs.declared.File.the-variants.{Rows, Groups, Timetbls};
 ghost use Rattle.iff_desk.specs.Store.{recordOn, stationRow};
 ghost use Rattle.iff_desk.specs.Changing.{ridingOn, core};
 ghost use Rattle.iff_desk.specs.declared.Pair.the-variants.{NoPair};
+ghost use Rattle.slots.specs.Slots.{Index};
 ghost use Rattle.store.specs.Found.{Stored, rowsOf, Inside};
 ghost use Rattle.needed_times.specs.Needed.{rowsFound, bestFor, verdictOn};
 
@@ -76,6 +78,7 @@ fn best_for(
     xfootnotes: &[u64],
     xchanges: &[u64],
     places: &[u32],
+    heads: &[u32],
     counts: StoreCounts,
     a: SideRows,
     b: SideRows,
@@ -87,6 +90,7 @@ fn best_for(
         × Stored (Groups Xchanges) (counts .xchanges) (now xchanges)
         × Inside (rowWidth Timetbls) (now timetbls) (a .part)
         × Inside (rowWidth Timetbls) (now timetbls) (b .part)
+        × Index (Groups Xchanges) (now xchanges) (counts .xchanges) (length (now heads)) (now heads)
         ⌝ }
     ensures { λ r. ⌜
         ((R : PerFile (List Row))
@@ -105,6 +109,7 @@ fn best_for(
         xfootnotes,
         counts.xfootnote,
         places,
+        heads,
         a.station,
         riding,
         next,
@@ -120,6 +125,7 @@ fn without_pair(
     xfootnotes: &[u64],
     xchanges: &[u64],
     places: &[u32],
+    heads: &[u32],
     counts: StoreCounts,
     a: SideRows,
     b: SideRows,
@@ -132,6 +138,7 @@ fn without_pair(
         × Stored (Groups Xchanges) (counts .xchanges) (now xchanges)
         × Inside (rowWidth Timetbls) (now timetbls) (a .part)
         × Inside (rowWidth Timetbls) (now timetbls) (b .part)
+        × Index (Groups Xchanges) (now xchanges) (counts .xchanges) (length (now heads)) (now heads)
         ⌝ }
     ensures { λ r. ⌜
         ((R : PerFile (List Row))
@@ -155,6 +162,7 @@ fn without_pair(
         xfootnotes,
         xchanges,
         places,
+        heads,
         counts,
         a,
         b,
@@ -173,6 +181,7 @@ pub fn by_needed(
     xfootnotes: &[u64],
     xchanges: &[u64],
     places: &[u32],
+    heads: &[u32],
     counts: StoreCounts,
     a: SideRows,
     b: SideRows,
@@ -186,6 +195,8 @@ pub fn by_needed(
         × Stored (Groups Xchanges) (counts .xchanges) (now xchanges)
         × Inside (rowWidth Timetbls) (now timetbls) (a .part)
         × Inside (rowWidth Timetbls) (now timetbls) (b .part)
+        × Index (Groups Changes) (now changes) (counts .changes) (length (now heads)) (now heads)
+        × Index (Groups Xchanges) (now xchanges) (counts .xchanges) (length (now heads)) (now heads)
         ⌝ }
     ensures { λ r. ⌜
         ((R : PerFile (List Row))
@@ -199,7 +210,7 @@ pub fn by_needed(
     let pair = pairs::pair_at(
         changes,
         counts.changes,
-        places,
+        heads,
         a.station,
         from.service,
         to.service,
@@ -213,6 +224,7 @@ pub fn by_needed(
             xfootnotes,
             xchanges,
             places,
+            heads,
             counts,
             a,
             b,

@@ -32,6 +32,7 @@ pub fn number_of(reason: Reason) -> u64
         Reason::NoPeriod => 15,
         Reason::NotSound => 16,
         Reason::NoStation => 17,
+        Reason::ShortList => 23,
     }
 }
 

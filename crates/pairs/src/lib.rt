@@ -1,5 +1,5 @@
-// What CHANGES says of a change at a station: the row of two services. The table comes with the number of its rows in use, and with places, a
-// hint where keys stand, on which nothing rests.
+// What CHANGES says of a change at a station: the row of two services. The table comes with the number of its rows in use, and with an exact index of
+// the stations that open its groups.
 use iff::File;
 use iff::GroupFile;
 use iff::words;
@@ -15,6 +15,7 @@ ghost use Rattle.iff.specs.declared.GroupFile.the-variants.{Changes};
 ghost use Rattle.iff.specs.declared.File.the-variants.{Groups};
 ghost use Rattle.iff_desk.specs.Changing.{pairIn as pairOf, pairAt};
 ghost use Rattle.keys.specs.Blocks.{rowsBetween};
+ghost use Rattle.slots.specs.Slots.{Index};
 ghost use Rattle.store.specs.Found.{Stored};
 ghost use Rattle.pairs.specs.Rows.{isPair};
 
@@ -48,17 +49,17 @@ fn pair_in(t: &[u64], from: usize, to: usize, a: u64, b: u64) -> Pair
 }
 
 // The row of two services at a station.
-pub fn pair_at(changes: &[u64], used: usize, places: &[u32], station: u64, a: u64, b: u64) -> Pair
-    requires { ⌜ Stored (Groups Changes) used (now changes) ⌝ }
+pub fn pair_at(changes: &[u64], used: usize, heads: &[u32], station: u64, a: u64, b: u64) -> Pair
+    requires { ⌜ Stored (Groups Changes) used (now changes) × Index (Groups Changes) (now changes) used (length (now heads)) (now heads) ⌝ }
     ensures { λ r. ⌜
         ((R : PerFile (List Row)) → R .changes ≡ rowsIn (Groups Changes) (now (changes .entry)) → r ≡ pairAt R station a b)
         ⌝ }
 {
-    let group = store::find_group(
+    let group = store::find_group_surely(
         File::Groups(GroupFile::Changes),
         changes,
         used,
-        places,
+        heads,
         station,
     );
     pair_in(changes, group.from + 1, group.to, a, b)

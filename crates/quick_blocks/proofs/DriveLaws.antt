@@ -20,7 +20,7 @@ use Rattle.blocks.specs.declared.Turned.the-variants.{On}
 use Rattle.block_lines.specs.declared.LineStep.the-variants.{Leads}
 use Rattle.blocks.proofs.ReadLaws.{turns-at, Reading, starts, goes-on, ends}
 use Rattle.block_rows.proofs.RowLaws.{block-row-length}
-use Rattle.block_rows.proofs.WriteLaws.{putRows}
+use Rattle.tables.proofs.Puts.{putRows}
 use Rattle.quick_blocks.specs.declared.Ridden.{Ridden}
 use Rattle.quick_blocks.specs.declared.Ridden.the-variants.{Lines, Stuck}
 use Rattle.quick_steps.specs.Steps.{w, Stepped}
@@ -47,8 +47,8 @@ pub record Driving (form : Form) (c : Context) (b : List ℕ) (n k row : ℕ) (w
   pub front : take ((row + before) * w) is ≡ take ((row + before) * w) was
   pub behind : drop (beyond b from before row * w) is ≡ drop (beyond b from before row * w) was
   pub left :
-      putRows was (row + before) (blockRowsFrom form n k (suc before) (lines (drop from b)))
-      ≡ putRows is (row + done) (blockRowsFrom form n k (suc done) (lines (drop at b)))
+      putRows w was (row + before) (blockRowsFrom form n k (suc before) (lines (drop from b)))
+      ≡ putRows w is (row + done) (blockRowsFrom form n k (suc done) (lines (drop at b)))
 
 module _ (form : Form) (c : Context) (b : List ℕ) (n k row : ℕ) (was : List ℕ) (from : ℕ) (start : InBlock) (before : ℕ)
     (d : Drivable b from before start row was) where

@@ -12,7 +12,7 @@ use Rattle.keys.specs.Blocks.{blockOfRows}
 use Rattle.tables.proofs.Each.{Each}
 use Rattle.tables.proofs.Rows.{Used}
 use Rattle.tables.proofs.Put.{length-put, put-before, put-behind, put-row, put-other}
-use Rattle.block_rows.proofs.WriteLaws.{putRows}
+use Rattle.tables.proofs.Puts.{putRows}
 use Rattle.quick_steps.specs.Steps.{w}
 
 -- fewer words of two tables that begin alike, and of two that end alike
@@ -34,7 +34,7 @@ module _ (t : List ℕ) (i : ℕ) (r : Row) (l : length r ≡ w) (h : i * w + w 
 
 -- SOME ROWS
 row-kept : (rs : List Row) → Each (Used w) rs → (t : List ℕ) (i : ℕ) → (i + length rs) * w ≤ length t → (j : ℕ) → j < i
-    → rowAt w (putRows t i rs) j ≡ rowAt w t j
+    → rowAt w (putRows w t i rs) j ≡ rowAt w t j
 unfolding putRows
 row-kept [] u t i h j g = refl
 row-kept (r ∷ rs) u t i h j g =
@@ -43,7 +43,7 @@ row-kept (r ∷ rs) u t i h j g =
     ∙ put-other w t i r (u .0 .0) m j (inl g)
 
 pub rows-back : (rs : List Row) → Each (Used w) rs → (t : List ℕ) (i : ℕ) → (i + length rs) * w ≤ length t
-    → blockOfRows w (putRows t i rs) i (length rs) ≡ rs
+    → blockOfRows w (putRows w t i rs) i (length rs) ≡ rs
 unfolding putRows blockOfRows
 rows-back [] u t i h = refl
 rows-back (r ∷ rs) u t i h =

@@ -29,7 +29,7 @@ use Rattle.blocks.specs.declared.Checked.the-variants.{Whole}
 use Rattle.blocks.specs.declared.Driven.the-variants.{Through}
 use Rattle.blocks.proofs.WholeLaws.{lines-read, last-checked}
 use Rattle.block_rows.proofs.RowLaws.{rows-used, rows-count}
-use Rattle.block_rows.proofs.WriteLaws.{putRows, rows-put}
+use Rattle.tables.proofs.Puts.{used-wide, putRows, rows-put}
 use Rattle.quick_blocks.specs.declared.Ridden.{Ridden}
 use Rattle.quick_blocks.specs.declared.Ridden.the-variants.{Lines}
 use Rattle.quick_blocks.specs.declared.Quickly.{Quickly}
@@ -102,7 +102,7 @@ module _ (form : Form) (b : List ℕ) (fresh : Bool) (counts : BlockCounts) (co 
       inside : (row + length rows) * w ≤ length was
       inside = rw (many, read .counted) room
 
-      put-all : is ≡ putRows was row rows
+      put-all : is ≡ putRows w was row rows
       put-all = rw add-zero at (came .put)
 
       back : rowsBetween w is row (row + m) ≡ rows
@@ -143,6 +143,6 @@ module _ (form : Form) (b : List ℕ) (fresh : Bool) (counts : BlockCounts) (co 
                   rw (← g, ← h, f)
                   (record {
                     checked = last-checked form true counts b co mo st fo some end m (came .driven) (Whole k n) tests;
-                    rows = put-all ∙ rows-put rows used was row inside ∙ rw (many, v .lines, as-block);
+                    rows = put-all ∙ rows-put w rows (used-wide w rows used) was row inside ∙ rw (many, v .lines, as-block);
                   });
             }

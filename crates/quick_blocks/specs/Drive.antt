@@ -10,7 +10,7 @@ use Rattle.iff.specs.declared.InBlock.{InBlock}
 use Rattle.iff_rules.specs.Rows.{blockRowsFrom, Context}
 use Rattle.blocks.specs.Drive.{driveAt, Standing}
 use Rattle.blocks.specs.declared.Driven.the-variants.{Through}
-use Rattle.block_rows.proofs.WriteLaws.{putRows}
+use Rattle.tables.proofs.Puts.{putRows}
 use Rattle.quick_steps.specs.Steps.{w}
 use Rattle.quick_blocks.specs.declared.Ridden.{Ridden}
 use Rattle.quick_blocks.specs.declared.Ridden.the-variants.{Lines}
@@ -27,7 +27,7 @@ pub record Drivable (b : List ℕ) (from before : ℕ) (start : InBlock) (row : 
 pub record LinesThrough (form : Form) (c : Context) (b : List ℕ) (n k row : ℕ) (was : List ℕ) (from : ℕ) (start : InBlock) (before : ℕ) (is : List ℕ)
     (m : ℕ) (end : InBlock) : Type 0 where
   pub driven : driveAt c true b from start before ≡ Through end m
-  pub put : is ≡ putRows was (row + before) (blockRowsFrom form n k (suc before) (lines (drop from b)))
+  pub put : is ≡ putRows w was (row + before) (blockRowsFrom form n k (suc before) (lines (drop from b)))
 
 -- in any case what stands before and behind is kept
 pub record Drove (form : Form) (c : Context) (b : List ℕ) (n k row : ℕ) (was : List ℕ) (from : ℕ) (start : InBlock) (before : ℕ) (is : List ℕ)

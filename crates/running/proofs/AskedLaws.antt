@@ -2,7 +2,8 @@
 use Prim.Native.Nat.{ℕ, _≤_, _<_}
 use mathlib.Core.Path.{_≡_, _∙_}
 use mathlib.Core.List.{List}
-use mathlib.Core.Bool.{Bool, true, false}
+use mathlib.Core.Bool.{Bool, true, false, _&&_}
+use lib.Dec.{leb, ltb}
 use Rattle.iff.specs.Days.{inPeriod}
 use Rattle.iff.specs.Files.{PerFile}
 use Rattle.iff.specs.Refusals.{firstTest}
@@ -14,6 +15,7 @@ use Rattle.iff.specs.declared.Reason.the-variants.{NoService, NoStop, NoDate}
 use Rattle.iff.specs.declared.Test.{Test}
 use Rattle.iff.specs.declared.Test.the-variants.{Passes, Fails}
 use Rattle.iff_rules.specs.Rows.{firstOf}
+use Rattle.iff_rules.specs.Legs.{stopsOf}
 use Rattle.iff_desk.specs.Store.{serviceRows, isValid, dayOn}
 use Rattle.iff_desk.specs.Running.{asked, runsOn, isLeg, runs, runningIn}
 use Rattle.iff_desk.specs.declared.Running.the-variants.{RunningRefused}
@@ -25,6 +27,10 @@ use Rattle.store.specs.declared.Part.{Part}
 pub service-rows : (R : PerFile (List Row)) (used s : ℕ) (t : List ℕ) (p : Part) → GroupAt Timetbls used t s p → R .timetbls ≡ rowsIn Timetbls t
     → serviceRows R s ≡ rowsOf (rowWidth Timetbls) t p
 service-rows R used s t p g e = rw e (g .is)
+
+-- whether the leg is right, by the number of stops
+pub leg-right : (rs : List Row) (leg n : ℕ) → n ≡ stopsOf rs → (b : Bool) → b ≡ (leb 1 leg && ltb leg n) → b ≡ isLeg rs leg
+leg-right rs leg n q b h = h ∙ rw q
 
 -- whether the date is right, by the words of DELIVERY's row
 pub valid-by : (R : PerFile (List Row)) (d : List Row) (date first last : ℕ) → R .delivery ≡ d → first ≡ words.firstDay (firstOf d)

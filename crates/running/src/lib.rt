@@ -5,13 +5,15 @@ use iff_desk::Running;
 use store::Part;
 ghost use mathlib.Core.Path.{_≡_};
 ghost use mathlib.Core.List.{List};
+ghost use mathlib.Core.Bool.{_&&_};
 ghost use Prim.Native.Nat.{ℕ};
+ghost use lib.Dec.{leb, ltb};
 ghost use Rattle.iff.specs.Files.{PerFile};
 ghost use Rattle.iff.specs.Tables.{Row, rowWidth, rowsIn};
 ghost use Rattle.iff.specs.declared.GroupFile.the-variants.{Footnote};
 ghost use Rattle.iff.specs.declared.File.the-variants.{Delivery, Groups, Timetbls};
 ghost use Rattle.iff_desk.specs.Store.{serviceRows, dayOn};
-ghost use Rattle.iff_desk.specs.Running.{runsOn, isLeg, asked, runs, runningIn};
+ghost use Rattle.iff_desk.specs.Running.{runsOn, asked, runs, runningIn};
 ghost use Rattle.store.specs.Found.{Stored, rowsOf, Inside};
 
 // A service whose rows are this part of TIMETBLS, a stop or leg of it that is right or is not, and a date: 12, 13, 14.
@@ -76,15 +78,14 @@ pub fn runs_on(
     )
 }
 
-// Legs are 1 to n - 1.
-pub fn is_leg(timetbls: &[u64], part: Part, leg: u64) -> bool
-    requires { ⌜ Inside (rowWidth Timetbls) (now timetbls) part ⌝ }
-    ensures { λ r. ⌜ r ≡ isLeg (rowsOf (rowWidth Timetbls) (now (timetbls .entry)) part) leg ⌝ }
+// Legs are 1 to n - 1, of n stops.
+pub fn is_leg(leg: u64, stops: u64) -> bool
+    ensures { λ r. ⌜ r ≡ (leb 1 leg && ltb leg stops) ⌝ }
 {
     if leg < 1 {
         return false;
     }
-    leg < service_rows::count_stops(timetbls, part)
+    leg < stops
 }
 
 fn runs(b: bool) -> Running
@@ -127,7 +128,7 @@ pub fn running_in(
         service_places,
         service,
     );
-    let right = is_leg(timetbls, part, leg);
+    let right = is_leg(leg, service_rows::count_stops(timetbls, part));
     match asked(delivery, delivery_used, part, right, date) {
         Test::Fails(reason) => Running::RunningRefused(reason),
         Test::Passes => {

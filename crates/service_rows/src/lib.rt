@@ -5,8 +5,10 @@ ghost use mathlib.Core.Path.{_≡_};
 ghost use Prim.Native.Nat.{_+_, _-_, _*_, _≤_};
 ghost use lib.ListN.{length};
 ghost use Rattle.iff.specs.Tables.{rowWidth, rowAt, tag};
+ghost use Rattle.iff.specs.Words.{stopCount};
 ghost use Rattle.iff.specs.declared.File.the-variants.{Timetbls};
 ghost use Rattle.iff_rules.specs.Order.{isStop};
+ghost use Rattle.iff_rules.specs.Rows.{firstOf};
 ghost use Rattle.iff_rules.specs.Legs.{stopsOf};
 ghost use Rattle.iff_desk.specs.Store.{stopAt, recordOn};
 ghost use Rattle.store.specs.Found.{rowsOf, Inside, RowFor};
@@ -37,6 +39,21 @@ pub fn count_stops(t: &[u64], part: Part) -> u64
         }
     }
     count
+}
+
+// As the first of them tells, the `#` row of a sound block.
+pub fn stops_told(t: &[u64], part: Part) -> u64
+    requires { ⌜
+        Inside (rowWidth Timetbls) (now t) part
+        × (stopsOf (rowsOf (rowWidth Timetbls) (now t) part) ≡ stopCount (firstOf (rowsOf (rowWidth Timetbls) (now t) part)))
+        ⌝ }
+    ensures { λ r. ⌜ r ≡ stopsOf (rowsOf (rowWidth Timetbls) (now (t .entry)) part) ⌝ }
+{
+    let from = part.from;
+    if part.to <= from {
+        return 0;
+    }
+    tables::word_at(t, tables::BLOCK_WIDTH, from, iff::words::STOP_COUNT)
 }
 
 // Stop `number`, from 1.

@@ -14,7 +14,7 @@ use Rattle.fresh_keys.specs.Runs.{stillRises, stepRun, runOf}
 use Rattle.fresh_keys.proofs.Runs.{run-fresh}
 use Rattle.slots.specs.Slots.{lastRow, namesAt, keyAt, keysBetween, Stands, PassedFor, FirstFree}
 use Rattle.slot_puts.specs.Puts.{AtRow, KeyPut}
-use Rattle.slots.proofs.SlotLaws.{one-more, new-by-free, put-indexed, full-indexed}
+use Rattle.slots.proofs.SlotLaws.{one-more, kept-same, new-by-free, kept-put, put-indexed, full-indexed}
 
 -- a key with which the keys so far still rise is new
 pub new-by-run : (f : File) (t : List ℕ) (i : ℕ) (run next : KeyRun) (key : ℕ) → run ≡ runOf (keysBetween f t 0 i) → next ≡ stepRun run key
@@ -39,6 +39,7 @@ module _ (f : File) (t : List ℕ) (run : KeyRun) (i key : ℕ) (ps : List ℕ) 
         wide = refl;
         new = e;
         index = λ n. one-more f t i (length ps) ps (a .index) g;
+        kept = kept-same ps;
       }
 
   module _ (wide : probes < length ps) (few : i ≤ lastRow) where
@@ -48,6 +49,7 @@ module _ (f : File) (t : List ℕ) (run : KeyRun) (i key : ℕ) (ps : List ℕ) 
           wide = length-set ps s i;
           new = ap not (sym (new-by-free f t i (length ps) ps (a .index) wide few key (a .first) s free));
           index = λ n. put-indexed f t i (length ps) ps (a .index) wide few key (a .some) (sym is) s free;
+          kept = kept-put f t i (length ps) ps (a .index) wide few key (a .some) s free;
         }
 
     pub searched-full : (b : Bool) → b ≡ not (has key (keysBetween f t 0 i))
@@ -58,7 +60,8 @@ module _ (f : File) (t : List ℕ) (run : KeyRun) (i key : ℕ) (ps : List ℕ) 
           wide = refl;
           new = e;
           index = λ n. full-indexed f t i (length ps) ps (a .index) wide few key (a .some) (sym is) full;
+          kept = kept-same ps;
         }
 
   pub put-taken : has key (keysBetween f t 0 i) ≡ true → KeyPut f t i key ps ps false
-  put-taken e = record { wide = refl; new = ap not (sym e); index = λ n. absurd (false≢true n) }
+  put-taken e = record { wide = refl; new = ap not (sym e); index = λ n. absurd (false≢true n); kept = kept-same ps }

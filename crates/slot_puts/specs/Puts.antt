@@ -9,7 +9,7 @@ use Rattle.iff.specs.Lists.{has}
 use Rattle.iff.specs.Tables.{rowWidth}
 use Rattle.fresh_keys.specs.declared.KeyRun.{KeyRun}
 use Rattle.fresh_keys.specs.Runs.{runOf}
-use Rattle.slots.specs.Slots.{namesAt, keysBetween, Index}
+use Rattle.slots.specs.Slots.{namesAt, keysBetween, Index, Kept}
 
 -- row i, the run of the keys before it, and their rows in the index; row 0 is the first line's, and names nothing
 pub record AtRow (f : File) (t : List ℕ) (run : KeyRun) (i : ℕ) (ps : List ℕ) : Type 0 where
@@ -24,3 +24,4 @@ pub record KeyPut (f : File) (t : List ℕ) (i key : ℕ) (ps qs : List ℕ) (r 
   pub wide : length qs ≡ length ps
   pub new : r ≡ not (has key (keysBetween f t 0 i))
   pub index : r ≡ true → Index f t (suc i) (length ps) qs
+  pub kept : Kept ps qs

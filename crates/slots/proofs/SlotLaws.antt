@@ -17,7 +17,7 @@ use Rattle.keys.specs.Places.{probes, placeOf}
 use Rattle.keys.proofs.Among.{any-row}
 use Rattle.keys.proofs.PlaceLaws.{place-inside}
 use Rattle.fresh_keys.proofs.Runs.{and-left, and-right}
-use Rattle.slots.specs.Slots.{lastRow, namesAt, keyAt, keysBetween, PutBefore, Stands, Index}
+use Rattle.slots.specs.Slots.{lastRow, namesAt, keyAt, keysBetween, PutBefore, Stands, Index, Kept}
 use Rattle.slots.specs.Slots.{earlier, Passed, AllPassed, PassedFor, FirstFree, Probed}
 use Rattle.slots.specs.declared.Met.the-variants.{Free, Taken, Full}
 
@@ -63,6 +63,21 @@ module _ (f : File) (t : List ℕ) where
         moved y j p q =
             let ne : q .at ≡ s → ⊥ = λ z. (let k : _≡_ {A = ℕ} 0 j = sym free ∙ rw z at (q .is) in omega arith) in
             record { at = q .at; low = q .low; high = q .high; is = getD-set-other ps s (q .at) row 0 ne ∙ q .is }
+
+  -- what stands of many rows stands of fewer
+  pub fewer-rows : (i n slots : ℕ) (ps : List ℕ) → n ≤ i → Index f t i slots ps → Index f t n slots ps
+  fewer-rows i n slots ps l x = record { wide = x .wide; stands = λ j p h. x .stands j p (omega arith) }
+
+  -- where there are too few slots for a key, nothing has to stand in them
+  pub few-slots : (i : ℕ) (ps : List ℕ) → length ps ≤ probes → Index f t i (length ps) ps
+  few-slots i ps h = record { wide = refl; stands = λ j p q n l w. absurd (omega arith) }
+
+-- WHAT IS KEPT
+pub kept-same : (ps : List ℕ) → Kept ps ps
+kept-same ps = record { keeps = λ g u n slots x. x }
+
+pub kept-then : {ps qs ms : List ℕ} → Kept ps qs → Kept qs ms → Kept ps ms
+kept-then a b = record { keeps = λ g u n slots x. b .keeps g u n slots (a .keeps g u n slots x) }
 
 -- WALKS
 -- no row passes
@@ -149,14 +164,21 @@ module _ (f : File) (t : List ℕ) (i slots : ℕ) (ps : List ℕ) (x : Index f 
       go (suc j) h true e = absurd (row (suc j) (omega arith) h e)
       go j h false e = e
 
+  -- it is one of the slots
+  free-inside : (s : ℕ) → FirstFree f t i key ps (placeOf key slots) s → s < length ps
+  free-inside s free = omega (arith, free .high, x .wide, place-inside key slots wide)
+
+  -- a put there loses no index
+  pub kept-put : 0 < i → (s : ℕ) → FirstFree f t i key ps (placeOf key slots) s → Kept ps (set ps s i)
+  kept-put some s free = record { keeps = λ g u n m y. kept-by-put g u n m ps y s i (free-inside s free) (free .free) some }
+
   module _ (some : 0 < i) (is : keyAt f t i ≡ key) where
     -- the row is put there
     pub put-indexed : (s : ℕ) → FirstFree f t i key ps (placeOf key slots) s → Index f t (suc i) slots (set ps s i)
-    put-indexed s free =
-        one-more f t i slots (set ps s i) (kept-by-put f t i slots ps x s i there (free .free) some) (λ n l w. rw is stands)
+    put-indexed s free = one-more f t i slots (set ps s i) (kept-put some s free .keeps f t i slots x) (λ n l w. rw is stands)
       where
         there : s < length ps
-        there = omega (arith, free .high, x .wide, place-inside key slots wide)
+        there = free-inside s free
 
         stands : Stands slots (set ps s i) key i
         stands y l h e =

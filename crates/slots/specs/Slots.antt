@@ -46,6 +46,10 @@ pub record Index (f : File) (t : List ℕ) (i slots : ℕ) (ps : List ℕ) : Typ
   pub wide : length ps ≡ slots
   pub stands : (j : ℕ) → 0 < j → j < i → namesAt f t j ≡ true → j ≤ lastRow → probes < slots → Stands slots ps (keyAt f t j) j
 
+-- what slots became, where each index in them, of whatever table, is one still
+pub record Kept (ps qs : List ℕ) : Type 0 where
+  pub keeps : (g : File) (u : List ℕ) (n slots : ℕ) → Index g u n slots ps → Index g u n slots qs
+
 -- A WALK over the slots for a key, by a table's width, tag and word of keys
 module _ (w tag col : ℕ) (t : List ℕ) (i key : ℕ) where
   -- a number in a slot is a row of the key before row i

@@ -25,11 +25,13 @@ use Rattle.keys.specs.Lookup.{keysIn}
 use Rattle.keys.proofs.Among.{keys-counted}
 use Rattle.references.specs.Agree.{StationKeys, GroupKeysAmong, BlockKeysAmong}
 use Rattle.sound.specs.declared.UsedRows.{UsedRows}
+use Rattle.sound.specs.declared.TablesAre.the-variants.{Sound, Unsound}
+use Rattle.slots.specs.Slots.{Index}
 use Rattle.walks.proofs.TableLaws.{tag-first}
 use Rattle.sound_row_walks.proofs.UsedLaws.{room-ends, rows-end, row-used}
 use Rattle.sound_frames.specs.Frames.{framedRows, framed}
 use Rattle.sound_behind.specs.Behind.{behind}
-use Rattle.sound.specs.Whole.{Counted, there, allThere, butTimetbls, allFramed, allBehind, timetblsSound}
+use Rattle.sound.specs.Whole.{Counted, there, allThere, butTimetbls, allFramed, allBehind, timetblsSound, SoundTold}
 
 -- A CHAIN OF TESTS, each of which hands a refusal on, is the test of all but TIMETBLS
 back : (b x r s : Bool) → r ≡ (b && x) → (r && s) ≡ (b && (x && s))
@@ -289,6 +291,20 @@ module _ (T : PerFile (List ℕ)) where
           → allBehind (contextOf (rowsOfTables T)) T ≡ true → has (ownCompany first) (keysIn (Rows Company) (T .company)) ≡ sound T
       unfolding contextOf
       by-company e m f = sym (whole-by ∙ rw (t, m, e, f))
+
+-- WHAT IS TOLD, with slots that are `ps` at the end
+module _ (T : PerFile (List ℕ)) (ps : List ℕ) where
+  pub unsound : false ≡ sound T → SoundTold T ps Unsound
+  unsound e = record { says = e; services = λ q. absurd (let z : _≡_ {A = ℕ} 0 1 = cc in omega arith) }
+
+  module _ (e : true ≡ sound T) where
+    pub hinted : SoundTold T ps (Sound false)
+    hinted = record { says = e; services = λ q. let z : false ≡ true = cc in absurd (false≢true z) }
+
+    -- they were an index before, and stayed as they were
+    pub indexed : (told : Bool) (qs : List ℕ) → ps ≡ qs
+        → (told ≡ true → Index Timetbls (T .timetbls) (length (rowsIn Timetbls (T .timetbls))) (length qs) qs) → SoundTold T ps (Sound told)
+    indexed told qs same i = record { says = e; services = λ q. let z : told ≡ true = cc in rw same (i z) }
 
 -- a form by its first line
 pub form-span : (r : Row) (days : ℕ) → days ≡ span (firstDay r) (lastDay r) → form424 days ≡ formOf r

@@ -2,7 +2,7 @@
 use Prim.Native.Nat.{ℕ}
 use mathlib.Core.Path.{_≡_}
 use mathlib.Core.List.{List}
-use mathlib.Core.Bool.{Bool, true, _&&_, cond}
+use mathlib.Core.Bool.{Bool, true, false, _&&_, cond}
 use lib.ListN.{length}
 use Rattle.iff.specs.Lists.{all}
 use Rattle.iff.specs.Files.{PerFile, of, inOrder, needed}
@@ -13,10 +13,13 @@ use Rattle.iff.specs.declared.File.{File}
 use Rattle.iff.specs.declared.File.the-variants.{Delivery, Rows, Groups, Timetbls}
 use Rattle.iff.specs.declared.Form.{Form}
 use Rattle.iff_rules.specs.Rows.{Context}
-use Rattle.iff_desk.specs.Sound.{heldIn}
+use Rattle.iff_desk.specs.Sound.{sound, heldIn}
+use Rattle.slots.specs.Slots.{Index}
 use Rattle.sound_frames.specs.Frames.{framed}
 use Rattle.sound_behind.specs.Behind.{behind}
 use Rattle.sound.specs.declared.UsedRows.{UsedRows}
+use Rattle.sound.specs.declared.TablesAre.{TablesAre}
+use Rattle.sound.specs.declared.TablesAre.the-variants.{Sound, Unsound}
 
 -- each count is that of its table; TIMETBLS is not counted
 pub record Counted (T : PerFile (List ℕ)) (u : UsedRows) : Type 0 where
@@ -53,3 +56,12 @@ allBehind c T = all (butTimetbls (λ f. behind c f (rowsIn f (of T f)))) inOrder
 
 abbrev pub timetblsSound : Context → Form → Row → List ℕ → Bool
 timetblsSound c form delivery t = framed form delivery Timetbls t && behind c Timetbls (rowsIn Timetbls t)
+
+-- WHAT IS TOLD of eleven tables: whether they are sound, and where they are, whether the slots `ps` are an index of all services
+abbrev pub isSoundTold : TablesAre → Bool
+isSoundTold (Sound told) = true
+isSoundTold Unsound = false
+
+pub record SoundTold (T : PerFile (List ℕ)) (ps : List ℕ) (r : TablesAre) : Type 0 where
+  pub says : isSoundTold r ≡ sound T
+  pub services : r ≡ Sound true → Index Timetbls (T .timetbls) (length (rowsIn Timetbls (T .timetbls))) (length ps) ps

@@ -17,10 +17,16 @@ ghost use Rattle.iff.specs.Tables.{rowsIn};
 ghost use Rattle.iff.specs.declared.File.the-variants.{Delivery, Timetbls};
 ghost use Rattle.iff_rules.specs.Rows.{contextOf, firstOf, formOf};
 ghost use Rattle.iff_desk.specs.Sound.{sound as areSound, rowsOfTables};
-ghost use Rattle.sound.specs.Whole.{Counted, allThere, allFramed, allBehind};
+ghost use Rattle.sound.specs.Whole.{Counted, allThere, allFramed, allBehind, SoundTold};
 
 // The slots of the index: a prime number of places to begin at, and those that are tried behind them. Half a megabyte serves some hundred thousand keys.
 pub const SLOTS: usize = 131135;
+
+// Tables are sound, and whether the slots are then an index of all services: a free slot says that a service is not there.
+pub enum TablesAre {
+    Sound(bool),
+    Unsound,
+}
 
 // How many rows of each table are in use. Those of TIMETBLS are most of a delivery's, and are counted where they are tested.
 pub struct UsedRows {
@@ -394,6 +400,7 @@ pub fn form_of(first: &[u64]) -> Form
 
 // The tables that are needed are there: the frames, TIMETBLS as a whole, the rows of the others, and DELIVERY's own company. CHANGES, whose rows name
 // services, comes after TIMETBLS, whose services are in the index then, as far as they are not too many; those that CHANGES names are in any case.
+// Where one of these had to be asked for, its number may stand where a row stood, and the slots are a hint and no longer an index.
 fn are_all_sound(
     delivery: &[u64],
     company: &[u64],
@@ -409,13 +416,13 @@ fn are_all_sound(
     used: UsedRows,
     first: &[u64],
     places: &mut [u32],
-) -> bool
+) -> TablesAre
     requires { ⌜ Counted (eleven (now delivery) (now company) (now country) (now trnsmode) (now timezone) (now stations) (now footnote) (now timetbls) (now changes) (now xfootnote) (now xchanges)) used
         × (now first ≡ firstOf (rowsIn Delivery (now delivery))) × (5 ≤ length (now first))
         × (allThere (rowsOfTables (eleven (now delivery) (now company) (now country) (now trnsmode) (now timezone) (now stations) (now footnote) (now timetbls) (now changes) (now xfootnote) (now xchanges))) ≡ true) ⌝ }
-    ensures { λ r. ⌜ r ≡ areSound (eleven (now (delivery .entry)) (now (company .entry)) (now (country .entry)) (now (trnsmode .entry))
+    ensures { λ r. ⌜ SoundTold (eleven (now (delivery .entry)) (now (company .entry)) (now (country .entry)) (now (trnsmode .entry))
         (now (timezone .entry)) (now (stations .entry)) (now (footnote .entry)) (now (timetbls .entry)) (now (changes .entry))
-        (now (xfootnote .entry)) (now (xchanges .entry))) ⌝ }
+        (now (xfootnote .entry)) (now (xchanges .entry))) (now (places .exit)) r ⌝ }
 {
     let form = form_of(first);
     if !are_framed(
@@ -435,7 +442,7 @@ fn are_all_sound(
         form,
         places,
     ) {
-        return false;
+        return TablesAre::Unsound;
     }
     let blocks = references::BlockCounts {
         companies: used.company,
@@ -443,7 +450,7 @@ fn are_all_sound(
         stations: used.stations,
         footnotes: used.footnote,
     };
-    let sound_behind::Judged::Right(services) = sound_behind::judge_blocks(
+    let sound_behind::Judged::Right(services, told) = sound_behind::judge_blocks(
         timetbls,
         first,
         form,
@@ -454,9 +461,9 @@ fn are_all_sound(
         footnote,
         places,
     ) else {
-        return false;
+        return TablesAre::Unsound;
     };
-    named_places::index_in_rows(changes, used.changes, timetbls, services, places);
+    let asked = named_places::index_in_rows(changes, used.changes, timetbls, services, places);
     if !are_right_behind(
         delivery,
         company,
@@ -474,19 +481,26 @@ fn are_all_sound(
         form,
         places,
     ) {
-        return false;
+        return TablesAre::Unsound;
     }
-    lookups::names_at(
+    if !lookups::names_at(
         File::Rows(RowFile::Company),
         company,
         used.company,
         places,
         first[words::OWN_COMPANY],
-    )
+    ) {
+        return TablesAre::Unsound;
+    }
+    if asked {
+        return TablesAre::Sound(false);
+    }
+    TablesAre::Sound(told)
 }
 
-// Soundness, with slots lent for the index of the keys, which may hold anything before and hold every key's row as a hint afterwards.
-pub fn is_sound_by(
+// Soundness, with slots lent for the index of the keys, which may hold anything before and hold every key's row as a hint afterwards; and whether
+// they are more than a hint for services.
+pub fn tell_soundness(
     delivery: &[u64],
     company: &[u64],
     country: &[u64],
@@ -499,10 +513,10 @@ pub fn is_sound_by(
     xfootnote: &[u64],
     xchanges: &[u64],
     places: &mut [u32],
-) -> bool
-    ensures { λ r. ⌜ r ≡ areSound (eleven (now (delivery .entry)) (now (company .entry)) (now (country .entry)) (now (trnsmode .entry))
+) -> TablesAre
+    ensures { λ r. ⌜ SoundTold (eleven (now (delivery .entry)) (now (company .entry)) (now (country .entry)) (now (trnsmode .entry))
         (now (timezone .entry)) (now (stations .entry)) (now (footnote .entry)) (now (timetbls .entry)) (now (changes .entry))
-        (now (xfootnote .entry)) (now (xchanges .entry))) ⌝ }
+        (now (xfootnote .entry)) (now (xchanges .entry))) (now (places .exit)) r ⌝ }
 {
     let used = count_rows(
         delivery,
@@ -517,7 +531,7 @@ pub fn is_sound_by(
         xchanges,
     );
     if !are_there(used, has_blocks(timetbls)) {
-        return false;
+        return TablesAre::Unsound;
     }
     let first = &delivery[0..6];
     are_all_sound(
@@ -536,4 +550,42 @@ pub fn is_sound_by(
         first,
         places,
     )
+}
+
+// The same, where only soundness is asked for.
+pub fn is_sound_by(
+    delivery: &[u64],
+    company: &[u64],
+    country: &[u64],
+    trnsmode: &[u64],
+    timezone: &[u64],
+    stations: &[u64],
+    footnote: &[u64],
+    timetbls: &[u64],
+    changes: &[u64],
+    xfootnote: &[u64],
+    xchanges: &[u64],
+    places: &mut [u32],
+) -> bool
+    ensures { λ r. ⌜ r ≡ areSound (eleven (now (delivery .entry)) (now (company .entry)) (now (country .entry)) (now (trnsmode .entry))
+        (now (timezone .entry)) (now (stations .entry)) (now (footnote .entry)) (now (timetbls .entry)) (now (changes .entry))
+        (now (xfootnote .entry)) (now (xchanges .entry))) ⌝ }
+{
+    match tell_soundness(
+        delivery,
+        company,
+        country,
+        trnsmode,
+        timezone,
+        stations,
+        footnote,
+        timetbls,
+        changes,
+        xfootnote,
+        xchanges,
+        places,
+    ) {
+        TablesAre::Sound(_) => true,
+        TablesAre::Unsound => false,
+    }
 }

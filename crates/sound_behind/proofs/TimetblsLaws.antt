@@ -14,6 +14,7 @@ use Rattle.iff_desk.specs.Sound.{soundTimetbls, distinct}
 use Rattle.keys.specs.Blocks.{rowsBetween}
 use Rattle.keys.specs.Lookup.{keysAmong}
 use Rattle.fresh_keys.proofs.Runs.{and-left, and-right}
+use Rattle.slots.specs.Slots.{Index}
 use Rattle.walks.proofs.TableLaws.{parted}
 use Rattle.sound_timetbls.specs.Told.{BlocksTold}
 use Rattle.sound_timetbls.specs.declared.BlocksAre.{BlocksAre}
@@ -25,9 +26,9 @@ use Rattle.sound_behind.specs.Behind.{behind, BlocksJudged}
 use Rattle.sound_behind.specs.declared.Judged.the-variants.{Right, Wrong}
 
 -- what is told of blocks, by the number of rows that they tell
-pub by-number : (counts : BlockCounts) (co mo st fo t : List ℕ) (used n : ℕ) → n ≡ used → (r : BlocksAre)
-    → BlocksTold counts co mo st fo t used r → BlocksTold counts co mo st fo t n r
-by-number counts co mo st fo t used n e r told = rw e told
+pub by-number : (counts : BlockCounts) (co mo st fo t : List ℕ) (used n : ℕ) → n ≡ used → (qs : List ℕ) (r : BlocksAre)
+    → BlocksTold counts co mo st fo t used qs r → BlocksTold counts co mo st fo t n qs r
+by-number counts co mo st fo t used n e qs r told = rw e told
 
 pub some-rows-told : (n used : ℕ) → n ≡ used → 0 < used → 0 < n
 some-rows-told n used e h = omega arith
@@ -79,13 +80,25 @@ module _ (t : List ℕ) (used : ℕ) (e : used ≡ length (rowsIn Timetbls t)) (
           ∙ and-true (framed form delivery Timetbls t))
 
 -- what is told
-module _ (counts : BlockCounts) (co mo st fo : List ℕ) (form : Form) (delivery : Row) (t : List ℕ) where
+module _ (counts : BlockCounts) (co mo st fo : List ℕ) (form : Form) (delivery : Row) (t qs : List ℕ) where
   abbrev Whole : Context → Bool
   Whole c = framed form delivery Timetbls t && behind c Timetbls (rowsIn Timetbls t)
 
-  pub wrong : ((c : Context) → BlockKeysAmong c counts co mo st fo → false ≡ Whole c) → BlocksJudged counts co mo st fo form delivery t Wrong
-  wrong s = record { says = s; rows = λ n e. absurd (let z : _≡_ {A = ℕ} 0 1 = cc in omega arith) }
+  pub wrong : ((c : Context) → BlockKeysAmong c counts co mo st fo → false ≡ Whole c) → BlocksJudged counts co mo st fo form delivery t qs Wrong
+  wrong s =
+      record {
+        says = s;
+        rows = λ n x e. absurd (let z : _≡_ {A = ℕ} 0 1 = cc in omega arith);
+        index = λ n x e y. absurd (let z : _≡_ {A = ℕ} 0 1 = cc in omega arith);
+      }
 
-  pub right : (used : ℕ) → used ≡ length (rowsIn Timetbls t) → ((c : Context) → BlockKeysAmong c counts co mo st fo → true ≡ Whole c)
-      → BlocksJudged counts co mo st fo form delivery t (Right used)
-  right used e s = record { says = s; rows = λ n q. let z : used ≡ n = cc in sym z ∙ e }
+  pub right : (used : ℕ) (told : Bool) → used ≡ length (rowsIn Timetbls t)
+      → (told ≡ true → Index Timetbls t (length (rowsIn Timetbls t)) (length qs) qs)
+      → ((c : Context) → BlockKeysAmong c counts co mo st fo → true ≡ Whole c)
+      → BlocksJudged counts co mo st fo form delivery t qs (Right used told)
+  right used told e i s =
+      record {
+        says = s;
+        rows = λ n x q. let z : used ≡ n = cc in sym z ∙ e;
+        index = λ n x q y. let z : told ≡ true = cc in i z;
+      }

@@ -16,9 +16,9 @@ ghost use Rattle.iff_rules.specs.Rows.{Context};
 ghost use Rattle.references.specs.Agree.{StationKeys, GroupKeysAmong};
 ghost use Rattle.sound_behind.specs.Behind.{behind, BlocksJudged};
 
-// What is told of TIMETBLS: that it is right, and how many of its rows are in use.
+// What is told of TIMETBLS: that it is right, how many of its rows are in use, and whether all of its services are in the index.
 pub enum Judged {
-    Right(usize),
+    Right(usize, bool),
     Wrong,
 }
 
@@ -102,12 +102,12 @@ pub fn judge_blocks(
 ) -> Judged
     requires { ⌜ (0 < length (rowsIn Timetbls (now t))) × (5 ≤ length (now delivery)) ⌝ }
     ensures { λ r. ⌜ BlocksJudged counts (now (companies .entry)) (now (modes .entry)) (now (stations .entry)) (now (footnotes .entry))
-        form (now (delivery .entry)) (now (t .entry)) r ⌝ }
+        form (now (delivery .entry)) (now (t .entry)) (now (places .exit)) r ⌝ }
 {
     if tables::word_or_zero(t, words::TAG) != tags::AT {
         return Judged::Wrong;
     }
-    let sound_timetbls::BlocksAre::Sound(used, rise) = sound_timetbls::are_blocks_sound(
+    let sound_timetbls::BlocksAre::Sound(used, rise, told) = sound_timetbls::are_blocks_sound(
         t,
         counts,
         companies,
@@ -124,5 +124,5 @@ pub fn judge_blocks(
     if !sound_frames::are_rows_framed_by(File::Timetbls, t, used, delivery, form, rise) {
         return Judged::Wrong;
     }
-    Judged::Right(used)
+    Judged::Right(used, told)
 }

@@ -6,7 +6,7 @@ use mathlib.Core.Bool.{Bool, true, false, _||_, cond, true≢false}
 use native.Mathlib.Omega.{arith}
 use borrow.Author.Tests.{eqb-true, ltb-true, leb-true}
 use lib.Dec.{eqb, leb, lit≤}
-use lib.ListN.{getD, drop}
+use lib.ListN.{length, getD, drop}
 use lib.Seq.{getD-drop, drop-drop}
 use Rattle.iff.specs.Bytes.{hash, at, plus, dash}
 use Rattle.iff.specs.Lists.{Group, front, groups, members, all, allOf, kept, total}
@@ -15,7 +15,7 @@ use Rattle.iff.specs.Columns.{Field, pictureFrom, fieldsOf, recordFields, recor
 use Rattle.iff.specs.Days.{dayOf, dayIs, period, span, longest}
 use Rattle.iff.specs.Values.{wordAt, wordRight, wordsOf, wordsRight}
 use Rattle.iff.specs.Tables.{Row, tag, isHashRow, letterless, keyTag, keyWord, keysOf, keyed}
-use Rattle.iff.specs.Words.{named, hours, changeTime, exceptionTime, firstDay, lastDay}
+use Rattle.iff.specs.Words.{named, hours, changeTime, exceptionTime, firstDay, lastDay, lineCount, stopCount}
 use Rattle.iff.specs.declared.RowFile.the-variants.{Stations}
 use Rattle.iff.specs.declared.GroupFile.{GroupFile}
 use Rattle.iff.specs.declared.GroupFile.the-variants.{Timezone, Xchanges}
@@ -26,10 +26,12 @@ use Rattle.iff.specs.declared.GroupStand.the-variants.{Opening, Opened, Going}
 use Rattle.iff.specs.declared.Form.{Form}
 use Rattle.iff_rules.specs.Rows.{Context, firstOf}
 use Rattle.iff_rules.specs.Order.{mayFollow, mayEnd, groupStand, groupMoves, isPeriod}
+use Rattle.iff_rules.specs.Legs.{stopsOf}
 use Rattle.iff_rules.specs.Meaning.{firstMeaning}
 use Rattle.iff_laws.specs.TruthLaws.{both}
 use Rattle.iff_desk.specs.Sound.{passes, followedBy, distinct, shaped, empty, rowSize, firstSize}
-use Rattle.iff_desk.specs.Sound.{soundFirst, soundPlainRow, soundPlain, soundGroupRow, soundGroup, soundGroups, soundLater, soundRows}
+use Rattle.iff_desk.specs.Sound.{soundFirst, soundPlainRow, soundPlain, soundGroupRow, soundGroup, soundGroups, soundBlock, soundTimetbls}
+use Rattle.iff_desk.specs.Sound.{soundLater, soundRows}
 use Rattle.iff_desk.specs.Store.{rowsOfGroups, groupOf, holds, periodOf}
 use Rattle.tables.proofs.Each.{Each}
 use Rattle.walks.proofs.PassLaws.{after-last}
@@ -42,11 +44,18 @@ one-of (b ∷ bs) e zero = both b (allOf bs) e .0
 one-of (b ∷ bs) e (suc i) = one-of bs (both b (allOf bs) e .1) i
 
 -- A FIRST LINE'S ROW names nothing and opens no group
-at-no-key : (f : File) → eqb at (keyTag f) ≡ false
+pub at-no-key : (f : File) → eqb at (keyTag f) ≡ false
 at-no-key Delivery = refl
 at-no-key (Rows f) = refl
 at-no-key (Groups f) = refl
 at-no-key Timetbls = refl
+
+-- and neither does a row of zeros
+pub zero-no-key : (f : File) → eqb 0 (keyTag f) ≡ false
+zero-no-key Delivery = refl
+zero-no-key (Rows f) = refl
+zero-no-key (Groups f) = refl
+zero-no-key Timetbls = refl
 
 first-tag : (f : File) (d r : Row) (rs : List Row) → soundFirst f d r rs ≡ true → tag r ≡ at
 unfolding soundFirst
@@ -189,28 +198,52 @@ stands-on rs r = after-last (λ s r. groupMoves s) Opening rs r
 abbrev Behind : Context → GroupFile → (Row → Type 0) → Type 0
 Behind c f Q = (s : GroupStand) (r : Row) → mayFollow f (groupMoves s) (tag r) ≡ true → shaped (fieldsOf (c .form) (Groups f) (tag r)) r ≡ true → Q r
 
--- what holds of the rows behind the `#` of every sound group holds of those of the group of any key
-module _ (c : Context) (f : GroupFile) (P : List Row → Type 0) (none : P []) (each : (g : Group Row) → soundGroup c f g ≡ true → P (g .rest)) where
-  groups-key : (key : ℕ) (gs : List (Group Row)) → all (soundGroup c f) gs ≡ true
-      → P (drop 1 (rowsOfGroups (kept (λ g. eqb (named (g .top)) key) gs)))
+-- what holds of the rows of every group that passes a test holds of those of the group of any key
+module _ (test : Group Row → Bool) (P : List Row → Type 0) (none : P []) (each : (g : Group Row) → test g ≡ true → P (members g)) where
+  groups-key : (key : ℕ) (gs : List (Group Row)) → all test gs ≡ true → P (rowsOfGroups (kept (λ g. eqb (named (g .top)) key) gs))
   unfolding all kept
   groups-key key [] e = none
   groups-key key (g ∷ gs) e =
       let b = both _ _ e in
       go (eqb (named (g .top)) key) (each g (b .0)) (groups-key key gs (b .1))
     where
-      go : (b : Bool) → P (g .rest) → P (drop 1 (rowsOfGroups (kept (λ g. eqb (named (g .top)) key) gs)))
-          → P (drop 1 (rowsOfGroups (cond b (g ∷ kept (λ g. eqb (named (g .top)) key) gs) (kept (λ g. eqb (named (g .top)) key) gs))))
+      go : (b : Bool) → P (members g) → P (rowsOfGroups (kept (λ g. eqb (named (g .top)) key) gs))
+          → P (rowsOfGroups (cond b (g ∷ kept (λ g. eqb (named (g .top)) key) gs) (kept (λ g. eqb (named (g .top)) key) gs)))
       go true h u = h
       go false h u = u
 
+-- and of a sound file with groups it may be the rows behind the `#`
+module _ (c : Context) (f : GroupFile) (P : List Row → Type 0) (none : P []) (each : (g : Group Row) → soundGroup c f g ≡ true → P (g .rest)) where
   pub key-group : (d : Row) (rs : List Row) → soundRows c d (Groups f) rs ≡ true → (key : ℕ) → P (drop 1 (groupOf key rs))
   unfolding groupOf groups kept soundGroups
   key-group d [] e key = none
   key-group d (r ∷ rs) e key =
       let l = later-rows c d (Groups f) r rs e in
       rw (later-groups c d (Groups f) r rs e)
-      (groups-key key (groups isHashRow rs) (both (empty (front isHashRow rs)) (all (soundGroup c f) (groups isHashRow rs)) l .1))
+      (groups-key (soundGroup c f) (λ rs. P (drop 1 rs)) none each key (groups isHashRow rs)
+      (both (empty (front isHashRow rs)) (all (soundGroup c f) (groups isHashRow rs)) l .1))
+
+-- A SERVICE'S BLOCK, by what its `#` row tells: its lines and its stops
+abbrev pub ToldBlock : List Row → Type 0
+ToldBlock rs = (length rs ≡ lineCount (firstOf rs)) × (stopsOf rs ≡ stopCount (firstOf rs))
+
+module _ (c : Context) where
+  none-told : ToldBlock []
+  unfolding kept
+  none-told = (refl, refl)
+
+  block-told : (g : Group Row) → soundBlock c g ≡ true → ToldBlock (members g)
+  unfolding soundBlock
+  block-told g e = (sym (eqb-true _ _ (one-of _ e 3)), sym (eqb-true _ _ (one-of _ e 4)))
+
+  pub key-block : (d : Row) (rs : List Row) → soundRows c d Timetbls rs ≡ true → (key : ℕ) → ToldBlock (groupOf key rs)
+  unfolding groupOf groups kept soundTimetbls
+  key-block d [] e key = none-told
+  key-block d (r ∷ rs) e key =
+      let l = later-rows c d Timetbls r rs e in
+      rw (later-groups c d Timetbls r rs e)
+      (groups-key (soundBlock c) ToldBlock none-told block-told key (groups isHashRow rs)
+      (both (empty (front isHashRow rs)) (all (soundBlock c) (groups isHashRow rs)) l .1))
 
 module _ (c : Context) (f : GroupFile) (Q : Row → Type 0) (q : Behind c f Q) where
   behind-each : (earlier : List Row) (x : Row) (rs : List Row) → passes (soundGroupRow c f) followedBy (followedBy earlier x) rs ≡ true → Each Q rs

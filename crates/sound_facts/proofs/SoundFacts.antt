@@ -1,27 +1,32 @@
 -- What the soundness of eleven tables gives the questions. Assumes nothing.
-use Prim.Native.Nat.{ℕ, _+_, _-_, _*_, _≤_, _<_}
-use mathlib.Core.Path.{_≡_, refl}
-use mathlib.Core.List.{List}
-use mathlib.Core.Bool.{Bool, true}
+use Prim.Native.Nat.{ℕ, zero, suc, _+_, _-_, _*_, _≤_, _<_}
+use mathlib.Core.Path.{_≡_, refl, ap, sym, _∙_}
+use mathlib.Core.List.{List, [], _∷_}
+use mathlib.Core.Bool.{Bool, true, false}
+use native.Mathlib.Nat.{zero-mul}
 use native.Mathlib.Omega.{arith}
-use borrow.Author.Tests.{ltb-true}
+use borrow.Author.Tests.{eqb-true, ltb-true}
+use lib.Dec.{eqb}
 use lib.ListN.{length, getD, drop}
 use Rattle.iff.specs.Lists.{all, total}
 use Rattle.iff.specs.Days.{span, longest}
 use Rattle.iff.specs.Files.{PerFile, of, inOrder, limit}
-use Rattle.iff.specs.Tables.{rowWidth, rowsIn, allZero, keysOf}
-use Rattle.iff.specs.Words.{firstDay, lastDay, hours, changeTime, exceptionTime}
+use Rattle.iff.specs.Tables.{tag, rowWidth, rowAt, rowsIn, allZero, keyTag, keysOf}
+use Rattle.iff.specs.Words.{firstDay, lastDay, hours, changeTime, exceptionTime, lineCount, stopCount}
 use Rattle.iff.specs.declared.RowFile.the-variants.{Company, Country, Trnsmode, Stations}
 use Rattle.iff.specs.declared.GroupFile.the-variants.{Timezone, Footnote, Changes, Xfootnote, Xchanges}
 use Rattle.iff.specs.declared.File.{File}
 use Rattle.iff.specs.declared.File.the-variants.{Delivery, Rows, Groups, Timetbls}
 use Rattle.iff_rules.specs.Rows.{contextOf, firstOf}
+use Rattle.iff_rules.specs.Legs.{stopsOf}
 use Rattle.iff_laws.specs.TruthLaws.{both, says-all}
 use Rattle.iff_desk.specs.Sound.{rowsOfTables, rowSize, firstSize, soundRows, soundTable, sound, distinct}
 use Rattle.iff_desk.specs.Store.{noRow, groupOf, stationRow, holds, periodOf, isThere}
 use Rattle.tables.proofs.Each.{Each}
 use Rattle.sound_facts.proofs.PeriodFacts.{period-alone, period-there}
-use Rattle.sound_facts.proofs.RowFacts.{one-of, keys-once, rows-short, days-few, station-times, period-few, exceptions-few}
+use Rattle.walks.proofs.TableLaws.{tag-first, parted}
+use Rattle.sound_facts.proofs.RowFacts.{at-no-key, zero-no-key, first-at, one-of, keys-once, rows-short, days-few, station-times, key-block}
+use Rattle.sound_facts.proofs.RowFacts.{period-few, exceptions-few}
 
 -- the files, by their place in the order of reading
 module _ (p : File → Bool) (e : all p inOrder ≡ true) where
@@ -40,6 +45,12 @@ module _ (p : File → Bool) (e : all p inOrder ≡ true) where
   each-file (Groups Changes) = at-place 8 (omega arith)
   each-file (Groups Xfootnote) = at-place 9 (omega arith)
   each-file (Groups Xchanges) = at-place 10 (omega arith)
+
+-- the first of words that are all zero
+first-zero : (t : List ℕ) → allZero t ≡ true → getD t 0 0 ≡ 0
+unfolding all
+first-zero [] e = refl
+first-zero (x ∷ t) e = sym (eqb-true 0 x (both (eqb 0 x) (allZero t) e .0))
 
 -- the rows of a file's table
 rows-of : (T : PerFile (List ℕ)) (f : File) → of (rowsOfTables T) f ≡ rowsIn f (of T f)
@@ -74,6 +85,22 @@ module _ (T : PerFile (List ℕ)) (s : sound T ≡ true) where
   unfolding soundTable
   unused-zero f = rw (← (rows-of T f)) (one-of _ (table-sound f) 2)
 
+  -- the first row, where there is one, is a first line's: it names nothing
+  pub first-unnamed : (f : File) → eqb (tag (rowAt (rowWidth f) (of T f) 0)) (keyTag f) ≡ false
+  first-unnamed f = go (length (rowsIn f t)) refl
+    where
+      t : List ℕ
+      t = of T f
+
+      go : (n : ℕ) → length (rowsIn f t) ≡ n → eqb (tag (rowAt (rowWidth f) t 0)) (keyTag f) ≡ false
+      go zero e =
+          let zeros : allZero t ≡ true = rw (e, zero-mul) at (unused-zero f) in
+          ap (λ x. eqb x (keyTag f)) (sym (tag-first f t) ∙ first-zero t zeros) ∙ zero-no-key f
+      go (suc n) e =
+          let some : 0 < length (rowsIn f t) = omega arith in
+          let rows = rw (parted f t (length (rowsIn f t)) refl some) at (rows-sound f) in
+          ap (λ x. eqb x (keyTag f)) (first-at _ _ f _ _ rows) ∙ at-no-key f
+
   -- "file length": the lines that a table's rows stand for
   pub short : (f : File) → firstSize + total (rowSize (contextOf (rowsOfTables T) .form) f) (drop 1 (rowsIn f (of T f))) ≤ limit
   short f = rows-short _ _ f _ (rows-sound f)
@@ -85,6 +112,15 @@ module _ (T : PerFile (List ℕ)) (s : sound T ≡ true) where
   -- "A delivery spans at most 800 days."
   pub few-days : span (firstDay (firstOf (rowsIn Delivery (T .delivery)))) (lastDay (firstOf (rowsIn Delivery (T .delivery)))) ≤ longest
   few-days = days-few _ _ Delivery _ (rows-sound Delivery)
+
+  -- a service's `#` row counts the block's lines, and its stops
+  pub block-lines : (service : ℕ)
+      → length (groupOf service (rowsIn Timetbls (T .timetbls))) ≡ lineCount (firstOf (groupOf service (rowsIn Timetbls (T .timetbls))))
+  block-lines service = key-block _ _ _ (rows-sound Timetbls) service .0
+
+  pub block-stops : (service : ℕ)
+      → stopsOf (groupOf service (rowsIn Timetbls (T .timetbls))) ≡ stopCount (firstOf (groupOf service (rowsIn Timetbls (T .timetbls))))
+  block-stops service = key-block _ _ _ (rows-sound Timetbls) service .1
 
   -- hours of a zone's period, 2-3
   pub few-hours : (zone day : ℕ) → hours (periodOf (rowsIn (Groups Timezone) (T .timezone)) zone day) < 100

@@ -1,14 +1,15 @@
 // The services of a table told to be distinct while its blocks are tested: the first ones by the index, and of more of them by walks over the table.
 ghost use mathlib.Core.Path.{_≡_};
+ghost use Prim.Native.Nat.{_≤_};
 ghost use lib.ListN.{length};
 ghost use Rattle.iff.specs.declared.File.the-variants.{Timetbls};
 ghost use Rattle.iff_desk.specs.Sound.{distinct};
 ghost use Rattle.keys.specs.Lookup.{keysAmong};
-ghost use Rattle.sound_services.specs.Services.{ServiceAt, ServicePut, AllGone};
+ghost use Rattle.sound_services.specs.Services.{mostIndexed, ServiceAt, ServicePut, AllGone};
 
 // So many services are put into the index, the first ones: half of its slots are then left for the keys of other tables, and for those services that
 // CHANGES names. Where slots are full, each key more is searched for among all rows before it.
-const INDEXED: u64 = 65536;
+pub const INDEXED: u64 = 65536;
 
 // The service of the block in row `i`, after `done` others: it is tested and put into the index, or where that has enough, only the run of the keys
 // goes on.
@@ -29,11 +30,12 @@ pub fn index_service(
     index::Next::Goes(fresh_keys::next_run(run, service))
 }
 
-// No service comes twice. While all were put into the index, each was new; of more of them, walks over the whole table tell, and where those do not,
-// the index.
+// No service comes twice. While all were put into the index, each was new, and the slots stay as they are; of more of them, walks over the whole
+// table tell, and where those do not, the index.
 pub fn are_distinct(t: &[u64], used: usize, done: u64, places: &mut [u32]) -> bool
     requires { ⌜ AllGone (now t) used done ⌝ }
-    ensures { λ r. ⌜ (r ≡ distinct (keysAmong Timetbls used (now (t .entry)))) × (length (now (places .exit)) ≡ length (now (places .entry))) ⌝ }
+    ensures { λ r. ⌜ (r ≡ distinct (keysAmong Timetbls used (now (t .entry)))) × (length (now (places .exit)) ≡ length (now (places .entry)))
+        × (done ≤ mostIndexed → now (places .exit) ≡ now (places .entry)) ⌝ }
 {
     if done <= INDEXED {
         return true;

@@ -5,8 +5,8 @@ use mathlib.Core.Path.{_≡_, refl, ap, sym, _∙_}
 use mathlib.Core.List.{List, [], _∷_}
 use mathlib.Core.Bool.{Bool, true, false, _&&_, cond, and-false, true≢false}
 use native.Mathlib.Omega.{arith}
-use borrow.Author.Tests.{ltb-true, ltb-false}
-use lib.Dec.{ltb}
+use borrow.Author.Tests.{ltb-true, ltb-false, leb-true}
+use lib.Dec.{ltb, leb}
 use lib.ListN.{length}
 use Rattle.iff.specs.Lists.{front, any}
 use Rattle.iff.specs.Refusals.{after}
@@ -22,7 +22,7 @@ use Rattle.keys.specs.Lookup.{keysAmong}
 use Rattle.keys.proofs.Among.{any-row}
 use Rattle.key_classes.specs.Classes.{servicesFrom}
 use Rattle.key_classes.proofs.RowLaws.{next-service, same-services, none-left}
-use Rattle.slots.specs.Slots.{keyAt}
+use Rattle.slots.specs.Slots.{keyAt, Index}
 use Rattle.index.specs.Keying.{Indexed}
 use Rattle.index.specs.declared.Next.{Next}
 use Rattle.index.specs.declared.Next.the-variants.{Came, Goes}
@@ -59,22 +59,28 @@ no-head-before w t from to r n j low high = go (isHashRow (rowAt w t j)) refl
     go true e = absurd (true≢false (sym (any-row isHashRow w t from (r - from) j low (omega arith) e) ∙ none))
     go false e = e
 
--- THE END: whether no service comes twice decides
-module _ (t : List ℕ) (used : ℕ) (run : KeyRun) (b : Bool) (e : b ≡ distinct (keysAmong Timetbls used t)) where
-  pub once : b ≡ true → EndTold t used run (Sound used (run .rises))
-  once y =
+-- THE END: whether no service comes twice decides; the slots were `ps` before, and stayed so where all services are in them
+module _ (t : List ℕ) (used : ℕ) (run : KeyRun) (ps qs : List ℕ) (b : Bool) (e : b ≡ distinct (keysAmong Timetbls used t)) where
+  pub once : (done : ℕ) → (done ≤ mostIndexed → Index Timetbls t used (length ps) ps) → (done ≤ mostIndexed → qs ≡ ps) → b ≡ true
+      → EndTold t used run qs (Sound used (run .rises) (leb done mostIndexed))
+  once done i same k =
       record {
-        says = sym y ∙ e;
-        rows = λ n x q. let z : used ≡ n = cc in sym z;
-        rise = λ n x q. let z : run .rises ≡ x = cc in sym z;
+        says = sym k ∙ e;
+        rows = λ n x w q. let z : used ≡ n = cc in sym z;
+        rise = λ n x w q. let z : run .rises ≡ x = cc in sym z;
+        index = λ n x w q y.
+            let z : leb done mostIndexed ≡ true = cc in
+            let few : done ≤ mostIndexed = leb-true done mostIndexed z in
+            rw (same few) (i few);
       }
 
-  pub twice : b ≡ false → EndTold t used run Unsound
+  pub twice : b ≡ false → EndTold t used run qs Unsound
   twice y =
       record {
         says = sym y ∙ e;
-        rows = λ n x q. absurd (let z : _≡_ {A = ℕ} 0 1 = cc in omega arith);
-        rise = λ n x q. absurd (let z : _≡_ {A = ℕ} 0 1 = cc in omega arith);
+        rows = λ n x w q. absurd (let z : _≡_ {A = ℕ} 0 1 = cc in omega arith);
+        rise = λ n x w q. absurd (let z : _≡_ {A = ℕ} 0 1 = cc in omega arith);
+        index = λ n x w q y. absurd (let z : _≡_ {A = ℕ} 0 1 = cc in omega arith);
       }
 
 -- FROM BLOCK TO BLOCK: before the block that begins in row i, after `done` services, with slots that were `ps` at first
@@ -88,23 +94,25 @@ pub record Going (counts : BlockCounts) (co mo st fo t : List ℕ) (used : ℕ) 
 
 module _ (counts : BlockCounts) (co mo st fo t : List ℕ) (used : ℕ) where
   -- blocks that are not all sound, and services of which one comes twice
-  abbrev Told : Type 0
-  Told = BlocksTold counts co mo st fo t used Unsound
+  abbrev Told : List ℕ → Type 0
+  Told qs = BlocksTold counts co mo st fo t used qs Unsound
 
-  not-sound : AllSays counts co mo st fo t used false → Told
-  not-sound e =
+  not-sound : (qs : List ℕ) → AllSays counts co mo st fo t used false → Told qs
+  not-sound qs e =
       record {
         says = λ c g. rw (sym (e c g));
-        rows = λ n b q. absurd (let z : _≡_ {A = ℕ} 0 1 = cc in omega arith);
-        rise = λ n b q. absurd (let z : _≡_ {A = ℕ} 0 1 = cc in omega arith);
+        rows = λ n b x q. absurd (let z : _≡_ {A = ℕ} 0 1 = cc in omega arith);
+        rise = λ n b x q. absurd (let z : _≡_ {A = ℕ} 0 1 = cc in omega arith);
+        index = λ n b x q y. absurd (let z : _≡_ {A = ℕ} 0 1 = cc in omega arith);
       }
 
-  not-distinct : distinct (keysAmong Timetbls used t) ≡ false → Told
-  not-distinct e =
+  not-distinct : (qs : List ℕ) → distinct (keysAmong Timetbls used t) ≡ false → Told qs
+  not-distinct qs e =
       record {
         says = λ c g. rw (e, and-false);
-        rows = λ n b q. absurd (let z : _≡_ {A = ℕ} 0 1 = cc in omega arith);
-        rise = λ n b q. absurd (let z : _≡_ {A = ℕ} 0 1 = cc in omega arith);
+        rows = λ n b x q. absurd (let z : _≡_ {A = ℕ} 0 1 = cc in omega arith);
+        rise = λ n b x q. absurd (let z : _≡_ {A = ℕ} 0 1 = cc in omega arith);
+        index = λ n b x q y. absurd (let z : _≡_ {A = ℕ} 0 1 = cc in omega arith);
       }
 
   pub going-first : 1 ≤ used → used * rowWidth Timetbls ≤ length t → isHashRow (rowAt (rowWidth Timetbls) t 0) ≡ false
@@ -132,27 +140,31 @@ module _ (counts : BlockCounts) (co mo st fo t : List ℕ) (used : ℕ) where
           ap (λ (s : KeyRun). s .rises) (sym (p .rises ∙ ap (after stepRun run) (none-left used t (p .room) i h)))
           ∙ run-rises (keysAmong Timetbls used t)
 
-      pub all-gone : isHashRow (rowAt (rowWidth Timetbls) t 0) ≡ false → AllGone t i done
-      all-gone e =
-          record {
-            inside = rw is-used (p .room);
-            first = e;
-            new = λ f.
-                ap (λ (n : ℕ). distinct (keysAmong Timetbls n t)) is-used ∙ sym (all-told Timetbls used t ps run i qs (p .sure f) h .0 .distinct);
-          }
+      pub all-gone : isHashRow (rowAt (rowWidth Timetbls) t 0) ≡ false
+          → AllGone t i done × (done ≤ mostIndexed → Index Timetbls t i (length qs) qs)
+      all-gone e = (
+        record {
+          inside = rw is-used (p .room);
+          first = e;
+          new = λ f.
+              ap (λ (n : ℕ). distinct (keysAmong Timetbls n t)) is-used ∙ sym (all-told Timetbls used t ps run i qs (p .sure f) h .0 .distinct);
+        },
+        (λ f. rw (p .wide) (p .sure f .index)),
+      )
 
-      pub going-last : (r : BlocksAre) → EndTold t i run r → BlocksTold counts co mo st fo t used r
-      going-last r x =
+      pub going-last : (ms : List ℕ) (r : BlocksAre) → EndTold t i run ms r → BlocksTold counts co mo st fo t used ms r
+      going-last ms r x =
           let d : areSound r ≡ distinct (keysAmong Timetbls used t) = x .says ∙ ap (λ (n : ℕ). distinct (keysAmong Timetbls n t)) is-used in
           record {
             says = λ c g. d ∙ rw (sym (ends counts co mo st fo t used i (p .left) h c g));
-            rows = λ n b q. x .rows n b q ∙ is-used;
-            rise = λ n b q. x .rise n b q ∙ last-run;
+            rows = λ n b y q. x .rows n b y q ∙ is-used;
+            rise = λ n b y q. x .rise n b y q ∙ last-run;
+            index = λ n b y q z. rw is-used at (x .index n b y q z);
           }
 
     module _ (l : i < used) where
-      pub row-astray : isHashRow (rowAt (rowWidth Timetbls) t i) ≡ false → Told
-      row-astray e = not-sound (stray counts co mo st fo t used i (p .left) l e)
+      pub row-astray : isHashRow (rowAt (rowWidth Timetbls) t i) ≡ false → Told qs
+      row-astray e = not-sound qs (stray counts co mo st fo t used i (p .left) l e)
 
       pub service-at : isHashRow (rowAt (rowWidth Timetbls) t 0) ≡ false → ServiceAt t done run i qs
       service-at e =
@@ -163,17 +175,17 @@ module _ (counts : BlockCounts) (co mo st fo t : List ℕ) (used : ℕ) where
 
       -- the block that begins in row i, and its service
       module _ (head : isHashRow (rowAt (rowWidth Timetbls) t i) ≡ true) (b : Tested) (told : BlockTold counts co mo st fo t i used b) where
-        pub block-unsound : b ≡ tested.Unsound → Told
-        block-unsound e = not-sound (unsound-block counts co mo st fo t used i (p .left) l head b told e)
+        pub block-unsound : b ≡ tested.Unsound → Told qs
+        block-unsound e = not-sound qs (unsound-block counts co mo st fo t used i (p .left) l head b told e)
 
         module _ (to : ℕ) (e : b ≡ tested.Sound to) (ms : List ℕ) (r : Next) (put : ServicePut t done run i qs ms r) where
-          pub service-came : r ≡ Came → Told × (length ms ≡ length ps)
+          pub service-came : r ≡ Came → Told ms × (length ms ≡ length ps)
           service-came q = (go (ltb done mostIndexed) refl, put .wide ∙ p .wide)
             where
-              go : (x : Bool) → ltb done mostIndexed ≡ x → Told
+              go : (x : Bool) → ltb done mostIndexed ≡ x → Told ms
               go true f =
                   let k : done < mostIndexed = ltb-true done mostIndexed f in
-                  not-distinct (sym (again-told Timetbls used t ps run i qs (p .sure (omega arith)) l ms r (put .put k) q .0 .distinct))
+                  not-distinct ms (sym (again-told Timetbls used t ps run i qs (p .sure (omega arith)) l ms r (put .put k) q .0 .distinct))
               go false f =
                   let k : Came ≡ Goes (stepRun run (keyAt Timetbls t i)) = sym q ∙ put .gone (ltb-false done mostIndexed f) in
                   absurd (let z : _≡_ {A = ℕ} 0 1 = cc in omega arith)

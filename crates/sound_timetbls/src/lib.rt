@@ -5,13 +5,15 @@ ghost use Prim.Native.Nat.{_≤_};
 ghost use lib.ListN.{length};
 ghost use Rattle.iff.specs.Tables.{rowAt, rowWidth, isHashRow};
 ghost use Rattle.iff.specs.declared.File.the-variants.{Timetbls};
-ghost use Rattle.sound_services.specs.Services.{AllGone};
+ghost use Rattle.slots.specs.Slots.{Index};
+ghost use Rattle.sound_services.specs.Services.{mostIndexed, AllGone};
 ghost use Rattle.sound_row_walks.specs.Walk.{usedIn};
 ghost use Rattle.sound_timetbls.specs.Told.{BlocksTold, EndTold};
 
-// All blocks are sound and no service comes twice: the number of rows in use, the first line's among them, and whether the services rise.
+// All blocks are sound and no service comes twice: the number of rows in use, the first line's among them, whether the services rise, and whether all
+// of them are in the index.
 pub enum BlocksAre {
-    Sound(usize, bool),
+    Sound(usize, bool, bool),
     Unsound,
 }
 
@@ -23,11 +25,12 @@ fn tell_services(
     run: fresh_keys::KeyRun,
     places: &mut [u32],
 ) -> BlocksAre
-    requires { ⌜ AllGone (now t) used done ⌝ }
-    ensures { λ r. ⌜ EndTold (now (t .entry)) used run r × (length (now (places .exit)) ≡ length (now (places .entry))) ⌝ }
+    requires { ⌜ AllGone (now t) used done × (done ≤ mostIndexed → Index Timetbls (now t) used (length (now places)) (now places)) ⌝ }
+    ensures { λ r. ⌜ EndTold (now (t .entry)) used run (now (places .exit)) r × (length (now (places .exit)) ≡ length (now (places .entry))) ⌝ }
 {
     if sound_services::are_distinct(t, used, done, places) {
-        return BlocksAre::Sound(used, run.rises);
+        let told = done <= sound_services::INDEXED;
+        return BlocksAre::Sound(used, run.rises, told);
     }
     BlocksAre::Unsound
 }
@@ -45,7 +48,7 @@ pub fn are_blocks_sound(
 ) -> BlocksAre
     requires { ⌜ (1 ≤ usedIn (now t)) × (isHashRow (rowAt (rowWidth Timetbls) (now t) 0) ≡ false) ⌝ }
     ensures { λ r. ⌜ BlocksTold counts (now (companies .entry)) (now (modes .entry)) (now (stations .entry)) (now (footnotes .entry))
-        (now (t .entry)) (usedIn (now (t .entry))) r × (length (now (places .exit)) ≡ length (now (places .entry))) ⌝ }
+        (now (t .entry)) (usedIn (now (t .entry))) (now (places .exit)) r × (length (now (places .exit)) ≡ length (now (places .entry))) ⌝ }
 {
     let room = t.len() / tables::BLOCK_WIDTH;
     let mut run = fresh_keys::no_keys();

@@ -116,11 +116,11 @@ module _ (f : File) (used : ℕ) (t : List ℕ) (s : Stored f used t) where
     pub found-inside : (o : RowOf) → FoundRow f used t key o → (i : ℕ) → o ≡ RowIs i → i < used
     found-inside o h i e = let k = h .found i e in omega (arith, k .inside, no-more used (length t / rowWidth f))
 
-    row-of : (i : ℕ) → i < used → getD (rowsIn f t) (i - 0) [] ≡ rowAt (rowWidth f) t i
+    pub row-of : (i : ℕ) → i < used → getD (rowsIn f t) (i - 0) [] ≡ rowAt (rowWidth f) t i
     row-of i h = rw sub-zero (row-is (rowWidth f) (length t / rowWidth f) t i (omega (arith, s .counted)))
 
     module _ (g : HasGroups f) where
-      own-group : (o : RowOf) → FoundRow f used t key o → groupOf key (rowsIn f t) ≡ groupFrom 0 (rowsIn f t) o
+      pub own-group : (o : RowOf) → FoundRow f used t key o → groupOf key (rowsIn f t) ≡ groupFrom 0 (rowsIn f t) o
       own-group o h =
           let e : o ≡ firstRow (opens key) 0 (rowsIn f t) = rw (g .tag, g .word) at (found-first f used t key s o h) in
           rw e (group-first key 0 (rowsIn f t))

@@ -2,4 +2,5 @@
 pub mod OnceLaws
 pub mod FirstLaws
 pub mod KeptLaws
+pub mod BlockLaws
 pub mod LineLaws

@@ -6,9 +6,13 @@ use mathlib.Core.Bool.{true}
 use lib.ListN.{length}
 use Rattle.iff.specs.Bytes.{hash}
 use Rattle.iff.specs.Tables.{Row, rowWidth, rowAt, rowsIn, keyTag, keyWord, keysOf}
+use Rattle.iff.specs.Words.{lineCount, stopCount}
 use Rattle.iff.specs.declared.File.{File}
+use Rattle.iff.specs.declared.File.the-variants.{Timetbls}
 use Rattle.iff.specs.declared.RowOf.{RowOf}
 use Rattle.iff.specs.declared.RowOf.the-variants.{Row as RowIs, NoRow}
+use Rattle.iff_rules.specs.Rows.{firstOf}
+use Rattle.iff_rules.specs.Legs.{stopsOf}
 use Rattle.iff_desk.specs.Sound.{distinct}
 use Rattle.iff_desk.specs.Store.{noRow, groupOf}
 use Rattle.keys.specs.Blocks.{rowsBetween}
@@ -38,6 +42,11 @@ pub record GroupAt (f : File) (used : ℕ) (t : List ℕ) (key : ℕ) (p : Part)
   pub is : groupOf key (rowsIn f t) ≡ rowsOf (rowWidth f) t p
   pub inside : Inside (rowWidth f) t p
   pub inUse : p .to ≤ used
+
+-- BLOCKS of TIMETBLS whose `#` rows tell how many lines they have, and how many stops
+pub record BlocksTold (t : List ℕ) : Type 0 where
+  pub lines : (key : ℕ) → length (groupOf key (rowsIn Timetbls t)) ≡ lineCount (firstOf (groupOf key (rowsIn Timetbls t)))
+  pub stops : (key : ℕ) → stopsOf (groupOf key (rowsIn Timetbls t)) ≡ stopCount (firstOf (groupOf key (rowsIn Timetbls t)))
 
 -- A ROW that was looked for, and what a reader takes it for where there is none
 abbrev pub rowOr : ℕ → List ℕ → RowOf → Row

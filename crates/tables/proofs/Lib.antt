@@ -4,6 +4,7 @@ pub mod Widths
 pub mod Rows
 pub mod Filled
 pub mod Put
+pub mod Puts
 pub mod Keys
 pub mod First
 -- laws of the loops

@@ -2,14 +2,15 @@
 use iff::RowOf;
 use iff::tags;
 use iff::words;
-use store::Part;
 ghost use mathlib.Core.Path.{_≡_};
 ghost use mathlib.Core.List.{List};
+ghost use Prim.Native.Nat.{ℕ};
 ghost use Rattle.iff.specs.Files.{PerFile};
 ghost use Rattle.iff.specs.Tables.{Row, rowWidth};
 ghost use Rattle.iff.specs.declared.File.the-variants.{Timetbls};
+ghost use Rattle.iff_desk.specs.Store.{stopAt};
 ghost use Rattle.iff_desk.specs.Stops.{arrivalOf, departureOf, mayAlight, mayBoard};
-ghost use Rattle.store.specs.Found.{rowsOf, Inside, rowOr, Stands};
+ghost use Rattle.store.specs.Found.{rowOr, Stands};
 
 // No time: of a `+` it says that nobody alights, or that nobody boards.
 const NO_TIME: u64 = 9999;
@@ -40,19 +41,25 @@ pub fn departure_of(t: &[u64], row: RowOf) -> u64
     store::word_of(t, tables::BLOCK_WIDTH, row, words::STOP_TIME)
 }
 
-// Somebody may alight at a stop, and board there: 9999 says that nobody does. It is so on every day.
-pub fn may_alight(t: &[u64], part: Part, number: u64, day: u64) -> bool
-    requires { ⌜ Inside (rowWidth Timetbls) (now t) part ⌝ }
-    ensures { λ r. ⌜ ((R : PerFile (List Row)) → r ≡ mayAlight R (rowsOf (rowWidth Timetbls) (now (t .entry)) part) number day) ⌝ }
+// Somebody may alight at a stop, and board there: 9999 says that nobody does. It is so on every day. The stop is told by its row.
+pub fn may_alight(t: &[u64], row: RowOf) -> bool
+    requires { ⌜ Stands (rowWidth Timetbls) (now t) row ⌝ }
+    ensures { λ r. ⌜
+        ((R : PerFile (List Row)) (rows : List Row) (number day : ℕ)
+        → stopAt rows number ≡ rowOr (rowWidth Timetbls) (now (t .entry)) row
+        → r ≡ mayAlight R rows number day)
+        ⌝ }
 {
-    let row = service_rows::stop_row(t, part, number);
     arrival_of(t, row) != NO_TIME
 }
 
-pub fn may_board(t: &[u64], part: Part, number: u64, day: u64) -> bool
-    requires { ⌜ Inside (rowWidth Timetbls) (now t) part ⌝ }
-    ensures { λ r. ⌜ ((R : PerFile (List Row)) → r ≡ mayBoard R (rowsOf (rowWidth Timetbls) (now (t .entry)) part) number day) ⌝ }
+pub fn may_board(t: &[u64], row: RowOf) -> bool
+    requires { ⌜ Stands (rowWidth Timetbls) (now t) row ⌝ }
+    ensures { λ r. ⌜
+        ((R : PerFile (List Row)) (rows : List Row) (number day : ℕ)
+        → stopAt rows number ≡ rowOr (rowWidth Timetbls) (now (t .entry)) row
+        → r ≡ mayBoard R rows number day)
+        ⌝ }
 {
-    let row = service_rows::stop_row(t, part, number);
     departure_of(t, row) != NO_TIME
 }

@@ -1,9 +1,10 @@
-//! Times the proved crates and the second program side by side. Three tables:
+//! Times the proved crates and the second program side by side. Four tables:
 //! loads of large deliveries, with keys that rise and keys in any order, with
-//! soundness of their tables and a change; amendments of them; and loads of
-//! deliveries with many of one thing, in no order.
+//! soundness of their tables and a change; amendments of them; sheets of a thousand
+//! changes, beside a plain program over the same tables; and loads of deliveries
+//! with many of one thing, in no order.
 //!
-//! usage: bench [--loads | --amendments | --files] [--max-services N] [--seconds N]
+//! usage: bench [--loads | --amendments | --sheets | --files] [--max-services N] [--seconds N]
 //!        bench --stack
 //!
 //! Each delivery is measured in a process of its own, once for each table, which
@@ -25,6 +26,16 @@
 //! amendment does: tables opened, which tests them, amended, and encoded into
 //! new ones.
 //!
+//! The columns of sheets: `sheet`, a thousand changes in one call of the proved
+//! crates, with its test of the tables; `sound`, `is_sound` on the same tables; what
+//! is left of the sheet beside that, and beside a sheet of no questions; `of ten
+//! thousand`, the same of a sheet ten times as long, for each thousand: it is less
+//! hidden by the test's own time. The plain program (`plain.rs`) tests nothing: its
+//! `maps` are made once from the tables' words, its questions are asked of them.
+//! Changes are `usual`, of which at least half need a time; at stations that are
+//! neither in CHANGES nor in XCHANGES; and of a service that is not held. All
+//! programs must agree on every word of every answer.
+//!
 //! The columns of long files: `growth`, the time beside that of the same work
 //! with a quarter of the things: 4 where times grow with their number, 16 where
 //! they grow with its square.
@@ -37,9 +48,12 @@ mod limits;
 mod loads;
 mod options;
 mod paint;
+mod plain;
 mod plan;
 mod rounds;
+mod sheets;
 mod stack;
+mod words;
 
 use std::process::{Child, Command, ExitCode, ExitStatus, Stdio};
 use std::time::{Duration, Instant};
@@ -78,6 +92,7 @@ fn measured(plan: Plan) -> String {
     match plan {
         Plan::Loads(size) => loads::row(size),
         Plan::Amendments(size) => amendments::row(size),
+        Plan::Sheets(size, kind) => sheets::row(size, kind),
         Plan::Files(many) => files::row(many),
     }
 }
@@ -88,6 +103,7 @@ fn tables(options: Options) -> io::Result<()> {
         let heading = match table {
             Table::Loads => loads::HEADING,
             Table::Amendments => amendments::HEADING,
+            Table::Sheets => sheets::HEADING,
             Table::Files => files::HEADING,
         };
         println!("\n{heading}");
@@ -106,7 +122,7 @@ fn conditions() -> String {
         false => "Both run on the machine itself.",
     };
     format!(
-        "{cores} cores ({}). {machine}\nTables are lent full of junk, their memory touched before: the proved load clears them in its time. The second program's time is its load and the encoding into new tables; soundness, which every question tests first, is held against it.",
+        "{cores} cores ({}). {machine}\nTables are lent full of junk, their memory touched before: the proved load clears them in its time. The second program's time is its load and the encoding into new tables; soundness, which every question tests first, is held against it. The plain program beside the sheets runs on the machine itself and tests nothing.",
         env::consts::ARCH,
     )
 }

@@ -5,7 +5,7 @@ use std::time::Duration;
 use crate::plan::{Plan, Table};
 
 pub const USAGE: &str = "\
-usage: bench [--loads | --amendments | --files] [--max-services N] [--seconds N]
+usage: bench [--loads | --amendments | --sheets | --files] [--max-services N] [--seconds N]
        bench --stack";
 
 pub enum Asked {

@@ -11,9 +11,18 @@ const LEAST: usize = 5;
 /// No further round is begun after this time.
 const ENOUGH: Duration = Duration::from_secs(15);
 
-pub fn in_rounds(mut round: impl FnMut()) {
+pub fn in_rounds(round: impl FnMut()) {
+    in_at_most(MOST, round);
+}
+
+/// For small differences of longer times.
+pub fn in_more_rounds(round: impl FnMut()) {
+    in_at_most(3 * MOST, round);
+}
+
+fn in_at_most(most: usize, mut round: impl FnMut()) {
     let start = Instant::now();
-    for done in 0..MOST {
+    for done in 0..most {
         if done >= LEAST && start.elapsed() > ENOUGH {
             return;
         }

@@ -26,6 +26,9 @@ impl<'a> Lent<'a> {
     }
 }
 
+/// The two sides of a change.
+pub type Sides = (questions::Side, questions::Side);
+
 /// An answer, or the number of a refusal.
 pub type Answered = Result<Answer, u64>;
 
@@ -52,8 +55,6 @@ pub enum Text {
 /// Asks the proved crates, which test the tables each time.
 pub fn asked_of_proved(question: &Question, lent: Lent) -> Answered {
     let tables = lent.tables.each_ref().map(Vec::as_slice);
-    let side =
-        |side: questions::Side| proved::Side { service: side.service, stop: side.stop, date: side.date };
     let answer = match *question {
         Question::RunningDay { service, leg, date } => {
             proved::running_day(tables, service, leg, date).map(Answer::Running)
@@ -61,7 +62,9 @@ pub fn asked_of_proved(question: &Question, lent: Lent) -> Answered {
         Question::StopTime { service, stop, date } => {
             proved::stop_time(tables, service, stop, date).map(Answer::StopTimes)
         }
-        Question::Change { from, to } => proved::change(tables, side(from), side(to)).map(Answer::Change),
+        Question::Change { from, to } => {
+            proved::change(tables, proved_side(from), proved_side(to)).map(Answer::Change)
+        }
         Question::Name { short_name } => {
             proved::name(lent.stations, short_name).map(|part| place_of(part, question, lent))
         }
@@ -70,6 +73,28 @@ pub fn asked_of_proved(question: &Question, lent: Lent) -> Answered {
         }
     };
     answer.map_err(|proved::Refusal(number)| number)
+}
+
+pub fn proved_side(side: questions::Side) -> proved::Side {
+    let questions::Side { service, stop, date } = side;
+    proved::Side { service, stop, date }
+}
+
+/// Asks the proved crates for many changes by one call; 16 where the tables are not
+/// sound.
+pub fn sheet_of_proved(changes: &[Sides], tables: &Tables) -> Result<Vec<Answered>, u64> {
+    let sides: Vec<_> = changes.iter().map(|&(from, to)| (proved_side(from), proved_side(to))).collect();
+    let number = |proved::Refusal(number)| number;
+    let answers = proved::sheet(tables.each_ref().map(Vec::as_slice), &sides).map_err(number)?;
+    Ok(answers.into_iter().map(|answer| answer.map(Answer::Change).map_err(number)).collect())
+}
+
+/// Asks the second program for them one at a time.
+pub fn changes_of_second(changes: &[Sides], tables: &Tables, examined: &Examined) -> Vec<Answered> {
+    // Changes are lent no texts.
+    let lent = Lent { tables, stations: &[], timetbls: &[] };
+    let ask = |&(from, to): &Sides| asked_of_second(&Question::Change { from, to }, lent, examined);
+    changes.iter().map(ask).collect()
 }
 
 /// Asks the second program, which has examined the tables before.

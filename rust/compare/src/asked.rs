@@ -4,8 +4,9 @@
 use std::io;
 use std::ops::Range;
 
-use compare::answers::{by_exception, came_to, outcome, soundness, Answer, Answered, Examined, Lent};
+use compare::answers::{by_exception, came_to, outcome, soundness, Answer, Answered, Examined, Lent, Sides};
 use compare::{by_second, junk, lengths_of, with_spare_words, Lengths, Tables};
+use deliveries::questions::Side;
 use deliveries::tables::{add_one, cut, damage_tables, delay, derive, other_words, rows, Limited, RowEdit};
 use deliveries::tally::{OF_CLOCKS, OF_EXCEPTIONS, OF_QUESTIONS, OF_SOUNDNESS};
 use deliveries::{clocks, exceptions};
@@ -25,6 +26,17 @@ pub struct Depth {
     questions: usize,
     /// So often its tables are damaged and one question is asked.
     damaged: usize,
+}
+
+impl Depth {
+    /// How many questions are asked of a delivery; clocks have many borders.
+    pub fn of(self, world: &World) -> usize {
+        if world.overnight {
+            2 * self.questions
+        } else {
+            self.questions
+        }
+    }
 }
 
 pub const FULL: Depth = Depth { questions: 24, damaged: 3 };
@@ -48,10 +60,10 @@ const AT_EACH_LIMIT: u64 = 10;
 const JUNK: u64 = 500;
 
 /// A sound delivery, what it is made of, and its tables.
-struct Loaded {
-    world: World,
-    case: Case,
-    tables: Tables,
+pub struct Loaded {
+    pub world: World,
+    pub case: Case,
+    pub tables: Tables,
 }
 
 impl Loaded {
@@ -61,7 +73,7 @@ impl Loaded {
     }
 
     /// In tables with the case's rooms, and by chance some words more.
-    fn by_seed(seed: u64, (world, case): (World, Case)) -> Loaded {
+    pub fn by_seed(seed: u64, (world, case): (World, Case)) -> Loaded {
         Loaded::new(with_spare_words(&mut Rng::new(seed), lengths_of(&case.rooms)), (world, case))
     }
 
@@ -94,9 +106,7 @@ impl<'c> Desk<'c> {
     pub fn compare_seeds(&mut self, seeds: Range<u64>, depth: Depth) -> io::Result<()> {
         for seed in seeds {
             let loaded = Loaded::by_seed(seed, of_each_sort(seed));
-            // Clocks have many borders.
-            let count = if loaded.world.overnight { 2 * depth.questions } else { depth.questions };
-            self.compare_loaded(&format!("asked-{seed}"), !seed, &loaded, count)?;
+            self.compare_loaded(&format!("asked-{seed}"), !seed, &loaded, depth.of(&loaded.world))?;
             self.compare_damaged(seed, &loaded, depth.damaged)?;
             self.compare_texts(seed)?;
         }
@@ -171,9 +181,7 @@ impl<'c> Desk<'c> {
 
     fn compare_loaded(&mut self, name: &str, seed: u64, loaded: &Loaded, count: usize) -> io::Result<()> {
         let examined = self.examine(name, &loaded.tables)?;
-        let mut rng = Rng::new(seed);
-        for at in 0..count {
-            let asked = question(&mut rng, &loaded.world);
+        for (at, asked) in questions(seed, &loaded.world, count).enumerate() {
             let name = format!("{name}-{at}");
             let answered = self.ask(&name, &asked, loaded.with(&loaded.tables), &examined)?;
             self.compare_borders(&name, &asked, loaded, answered)?;
@@ -182,7 +190,7 @@ impl<'c> Desk<'c> {
     }
 
     /// Asks for a change again, of tables in which its gap is just what is
-    /// needed, and a minute less, where B's clocks stay.
+    /// needed, and a minute less.
     fn compare_borders(
         &mut self,
         name: &str,
@@ -190,16 +198,10 @@ impl<'c> Desk<'c> {
         loaded: &Loaded,
         answered: Answered,
     ) -> io::Result<()> {
-        let (Question::Change { to, .. }, Ok(Answer::Change(change))) = (asked, answered) else {
-            return Ok(());
-        };
-        let Some(spare) = change.spare() else { return Ok(()) };
-        for (border, earlier) in [("just", spare), ("below", spare + 1)] {
-            let mut tables = loaded.tables.clone();
-            if delay(&mut tables, to.service, to.stop, -earlier).is_some() {
-                let examined = examine(&tables);
-                self.ask(&format!("{name}-{border}"), asked, loaded.with(&tables), &examined).map(drop)?;
-            }
+        let Question::Change { to, .. } = *asked else { return Ok(()) };
+        for (border, tables) in at_borders(&loaded.tables, to, answered) {
+            let examined = examine(&tables);
+            self.ask(&format!("{name}-{border}"), asked, loaded.with(&tables), &examined).map(drop)?;
         }
         Ok(())
     }
@@ -264,6 +266,37 @@ impl<'c> Desk<'c> {
         }
         Ok(answered)
     }
+}
+
+/// So many questions on a delivery.
+fn questions(seed: u64, world: &World, count: usize) -> impl Iterator<Item = Question> + '_ {
+    let mut rng = Rng::new(seed);
+    (0..count).map(move |_| question(&mut rng, world))
+}
+
+/// The changes among them.
+pub fn changes(seed: u64, world: &World, count: usize) -> Vec<Sides> {
+    let change = |asked| match asked {
+        Question::Change { from, to } => Some((from, to)),
+        _ => None,
+    };
+    questions(seed, world, count).filter_map(change).collect()
+}
+
+/// The tables in which the gap of a change to this side is just what is needed, and
+/// a minute less, where B's clocks stay.
+pub fn at_borders(sound: &Tables, to: Side, answered: Answered) -> Vec<(&'static str, Tables)> {
+    let spare = match answered {
+        Ok(Answer::Change(change)) => change.spare(),
+        _ => None,
+    };
+    let borders = spare.map(|spare| [("just", spare), ("below", spare + 1)]);
+    let moved = |(border, earlier): (&'static str, i64)| {
+        let mut tables = sound.clone();
+        delay(&mut tables, to.service, to.stop, -earlier)?;
+        Some((border, tables))
+    };
+    borders.into_iter().flatten().filter_map(moved).collect()
 }
 
 /// The tables with one word or one row changed, at every place.

@@ -11,6 +11,7 @@ use deliveries::{Case, Question, FILES};
 use proved::{Change, LocalMinutes, Reason, ReferenceMinutes, Source, StopTimes, Time, Verdict};
 
 use crate::comparison::{shown, Comparison};
+use crate::sheets::Known;
 
 /// 25 to 31 March 2015, Wednesday to Tuesday.
 const FIRST_LINE: &str = "@100,25032015,31032015,0001,The night boat                \n";
@@ -112,7 +113,7 @@ const BETWEEN: &[ChangeAsked] = &[
 
 /// Loads the delivery and asks all; answers what is wrong.
 pub fn compare_all(comparison: &mut Comparison) -> io::Result<Vec<String>> {
-    let case = Case { files: files(), rooms: [ROOM; FILES] };
+    let case = case();
     let lengths = lengths_of(&case.rooms);
     let loaded = comparison.compare("boat", case.texts(), lengths)?;
     if shown(loaded) != ACCEPTED {
@@ -129,6 +130,22 @@ pub fn compare_all(comparison: &mut Comparison) -> io::Result<Vec<String>> {
         }
     }
     Ok(complaints)
+}
+
+/// The changes on one sheet.
+pub fn known() -> Known {
+    let case = case();
+    let tables = by_second(case.texts(), &lengths_of(&case.rooms)).tables;
+    let change = |(_, question, expected)| match question {
+        Question::Change { from, to } => Some(((from, to), expected)),
+        _ => None,
+    };
+    let (changes, answers) = asked().filter_map(change).unzip();
+    Known { name: "boat".into(), tables, changes, answers }
+}
+
+fn case() -> Case {
+    Case { files: files(), rooms: [ROOM; FILES] }
 }
 
 fn asked() -> impl Iterator<Item = (String, Question, Answered)> {

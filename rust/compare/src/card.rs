@@ -4,7 +4,7 @@
 
 use std::io;
 
-use compare::answers::{Answer, Lent};
+use compare::answers::{Answer, Answered, Lent, Sides};
 use compare::{by_second, lengths_of};
 use deliveries::questions::Side;
 use deliveries::tables::{ANY_COMPANY, ANY_MODE};
@@ -12,6 +12,7 @@ use deliveries::{Case, Question, Rng, FILES};
 use proved::{Change, Keys, Source, Verdict};
 
 use crate::comparison::{shown, Comparison};
+use crate::sheets::Known;
 
 /// Companies that are named: at the limits of their three digits, beyond them, and
 /// such as a careless look takes for the wildcard.
@@ -113,7 +114,8 @@ fn many_names() -> impl Iterator<Item = [u64; 4]> {
 }
 
 /// On 1 to 3 January 2015 a train of company 100, mode IC, arrives at 10:00, and one
-/// of company 200, mode ST, leaves 17 hours later.
+/// of company 200, mode ST, leaves 17 hours later. Footnote 1 holds on the 2nd and
+/// the 3rd, footnote 2 on the 1st and the 2nd.
 const FIRST_LINE: &str = "@100,01012015,03012015,0001,Of two exceptions             \n";
 const ACCEPTED: &str = "accepted 3 2";
 const GAP: i32 = 1_020;
@@ -128,38 +130,72 @@ fn exception([from_company, from_mode, to_company, to_mode]: [bool; 4], time: u6
     format!("-{from_company},{from_mode},{to_company},{to_mode},{time:03},{footnote:05}\n")
 }
 
+/// Two exceptions, and the times that count on 1, 2 and 3 January: that of the second
+/// alone, that of one of the two, that of the first alone.
+struct Pair {
+    name: String,
+    case: Case,
+    times: [u64; 3],
+}
+
 /// Every two patterns in both orders, each with the larger time and with as large
 /// a one; the pattern that comes later on the card counts, and of one pattern twice
 /// the larger time.
+fn pairs() -> impl Iterator<Item = Pair> {
+    let both = card().enumerate().flat_map(|first| card().enumerate().map(move |second| (first, second)));
+    both.flat_map(|((first_place, first), (second_place, second))| {
+        [(30, 40), (40, 30), (30, 30), (0, 999)].map(|(first_time, second_time)| {
+            let counts = match first_place.cmp(&second_place) {
+                std::cmp::Ordering::Less => second_time,
+                std::cmp::Ordering::Equal => first_time.max(second_time),
+                std::cmp::Ordering::Greater => first_time,
+            };
+            let rows = exception(first, first_time, 1) + &exception(second, second_time, 2);
+            Pair {
+                name: format!("card-{first_place}-{second_place}-{first_time}-{second_time}"),
+                case: Case { files: files(&rows), rooms: [ROOM; FILES] },
+                times: [second_time, counts, first_time],
+            }
+        })
+    })
+}
+
+/// From one train to the other on a day of January.
+fn change(day: u64) -> Sides {
+    let side = |service, stop| Side { service, stop, date: day * 1_000_000 + 12_015 };
+    (side(1, 2), side(2, 1))
+}
+
+/// What a change comes to by an exception's time.
+fn answer(time: u64) -> Answered {
+    let verdict = if time == 999 { Verdict::Unsettled } else { Verdict::Yes };
+    let change = Change { verdict, gap: Some(GAP), source: Some(Source::XChanges), needed: Some(time) };
+    Ok(Answer::Change(change))
+}
+
+/// For every two patterns the three days on one sheet.
+pub fn known() -> impl Iterator<Item = Known> {
+    pairs().map(|Pair { name, case, times }| Known {
+        name,
+        tables: by_second(case.texts(), &lengths_of(&case.rooms)).tables,
+        changes: [1, 2, 3].map(change).to_vec(),
+        answers: times.map(answer).to_vec(),
+    })
+}
+
 fn compare_pairs(comparison: &mut Comparison) -> io::Result<Vec<String>> {
     let mut complaints = Vec::new();
     let mut count = 0;
-    for (first_place, first) in card().enumerate() {
-        for (second_place, second) in card().enumerate() {
-            for (first_time, second_time) in [(30, 40), (40, 30), (30, 30), (0, 999)] {
-                let expected = match first_place.cmp(&second_place) {
-                    std::cmp::Ordering::Less => second_time,
-                    std::cmp::Ordering::Equal => first_time.max(second_time),
-                    std::cmp::Ordering::Greater => first_time,
-                };
-                let rows = exception(first, first_time, 1) + &exception(second, second_time, 2);
-                let name = format!("card-{first_place}-{second_place}-{first_time}-{second_time}");
-                complaints.extend(compare_rows(comparison, &name, &rows, expected)?);
-                count += 1;
-            }
-        }
+    for pair in pairs() {
+        complaints.extend(compare_pair(comparison, &pair)?);
+        count += 1;
     }
     println!("{count} changes to which two exceptions apply, every two patterns in both orders.");
     Ok(complaints)
 }
 
-fn compare_rows(
-    comparison: &mut Comparison,
-    name: &str,
-    rows: &str,
-    expected: u64,
-) -> io::Result<Option<String>> {
-    let case = Case { files: files(rows), rooms: [ROOM; FILES] };
+fn compare_pair(comparison: &mut Comparison, pair: &Pair) -> io::Result<Option<String>> {
+    let Pair { name, case, times: [_, time, _] } = pair;
     let lengths = lengths_of(&case.rooms);
     let loaded = comparison.compare(name, case.texts(), lengths)?;
     if shown(loaded) != ACCEPTED {
@@ -167,14 +203,12 @@ fn compare_rows(
     }
     let tables = by_second(case.texts(), &lengths).tables;
     let examined = comparison.compare_soundness(name, &tables)?;
-    let side = |service, stop| Side { service, stop, date: 2_012_015 };
-    let question = Question::Change { from: side(1, 2), to: side(2, 1) };
+    let (from, to) = change(2);
+    let question = Question::Change { from, to };
     let answered =
         comparison.compare_answers(name, &question, Lent::new(&tables, case.texts()), &examined)?;
-    let verdict = if expected == 999 { Verdict::Unsettled } else { Verdict::Yes };
-    let expected = Change { verdict, gap: Some(GAP), source: Some(Source::XChanges), needed: Some(expected) };
-    let right = answered == Ok(Answer::Change(expected));
-    Ok((!right).then(|| format!("{name} is {answered:?}, not {expected:?}.")))
+    let expected = answer(*time);
+    Ok((answered != expected).then(|| format!("{name} is {answered:?}, not {expected:?}.")))
 }
 
 fn files(exceptions: &str) -> [Vec<u8>; FILES] {

@@ -5,12 +5,16 @@ use std::panic::{catch_unwind, AssertUnwindSafe};
 use std::path::{Path, PathBuf};
 use std::{fs, io};
 
-use compare::answers::{asked_of_proved, asked_of_second, Answered, Examined, Lent};
-use compare::{
-    amended_by_proved, amended_by_second, by_proved, by_second, junk, Files, Lengths, Outcome, Tables,
+use compare::answers::{
+    asked_of_proved, asked_of_second, changes_of_second, proved_side, sheet_of_proved, Answered, Examined,
+    Lent, Sides,
 };
-use deliveries::{folder, Amendment, Question, Rng, Tally, NAMES};
-use proved::{Answer, Keys};
+use compare::{
+    amended_by_proved, amended_by_second, by_proved, by_second, filled_by_proved, filled_by_second, junk,
+    Files, Filled, Lengths, Outcome, Tables,
+};
+use deliveries::{folder, Amendment, Question, Rng, Sheet, Tally, NAMES};
+use proved::{Answer, Keys, ANSWER_WORDS};
 use second::encode::width;
 use second::sound::examine;
 use second::{zeroes, File};
@@ -134,6 +138,67 @@ impl Comparison {
             })?;
         }
         Ok(second)
+    }
+
+    /// Has both programs fill in a sheet, and compares the number and every word of
+    /// the list. Answers what the second program comes to.
+    pub fn compare_sheet(&mut self, name: &str, sheet: &Sheet, tables: &Tables) -> io::Result<Filled> {
+        let second = filled_by_second(sheet, tables);
+        let proved = answered(|| filled_by_proved(sheet, tables));
+        if proved.as_ref() != Some(&second) {
+            self.note(name, |path| {
+                write_answers(path, sheet, &proved, &second)?;
+                fs::write(path.join("tables.txt"), written(tables))
+            })?;
+        }
+        Ok(second)
+    }
+
+    /// Asks the proved crates for changes by one call and the second program for one
+    /// after the other. Answers what the second program says.
+    pub fn compare_changes(
+        &mut self,
+        name: &str,
+        changes: &[Sides],
+        tables: &Tables,
+        examined: &Examined,
+    ) -> io::Result<Vec<Answered>> {
+        let second = changes_of_second(changes, tables, examined);
+        let proved = answered(|| sheet_of_proved(changes, tables));
+        let is_same = match (&proved, examined) {
+            (Some(Ok(answers)), Ok(_)) => *answers == second,
+            (Some(Err(16)), Err(_)) => true,
+            _ => false,
+        };
+        if !is_same {
+            self.note(name, |path| {
+                write_answers(path, &changes, &proved, &second)?;
+                fs::write(path.join("tables.txt"), written(tables))
+            })?;
+        }
+        Ok(second)
+    }
+
+    /// Holds an answer on a sheet against the proved crates' answer to the change by
+    /// itself, word for word.
+    pub fn compare_single(
+        &mut self,
+        name: &str,
+        (from, to): Sides,
+        tables: &Tables,
+        on_sheet: [u64; ANSWER_WORDS],
+    ) -> io::Result<()> {
+        let lent = tables.each_ref().map(Vec::as_slice);
+        let single = proved::change_words(lent, proved_side(from), proved_side(to));
+        if single != on_sheet {
+            self.note(name, |path| {
+                let told =
+                    format!("asked: {from:?}, {to:?}\nsingle: {single:?}\non the sheet: {on_sheet:?}\n");
+                fs::write(path.join("answers.txt"), told)?;
+                fs::write(path.join("tables.txt"), written(tables))
+            })?;
+        }
+        Ok(())
     }
 
     /// Asks both programs for the rank of an exception. Answers what the second

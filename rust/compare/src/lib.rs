@@ -1,11 +1,11 @@
-//! One delivery, one amendment or one question through both programs: the proved
-//! crates and the second program.
+//! One delivery, one amendment, one question or one sheet of them through both
+//! programs: the proved crates and the second program.
 
 pub mod answers;
 
 use std::array;
 
-use deliveries::Rng;
+use deliveries::{Rng, Sheet};
 use proved::Answer;
 use second::encode::width;
 use second::{encode, rooms_of, zeroes, Fault, File, Refusal, Store};
@@ -68,6 +68,30 @@ pub fn amended_by_second(examined: &mut Examined, tables: &Tables, service: u64,
     };
     // A refused amendment, too, is shown by what the program is left with.
     Outcome { answer, tables: encode(store, &tables.each_ref().map(Vec::len)) }
+}
+
+/// What a program answers to a sheet, and the list of answers that it leaves.
+#[derive(Clone, Debug, PartialEq, Eq)]
+pub struct Filled {
+    pub number: u64,
+    pub answers: Vec<u64>,
+}
+
+/// The proved crates' sheet, in a list that holds something already.
+pub fn filled_by_proved(sheet: &Sheet, tables: &Tables) -> Filled {
+    let mut answers = sheet.answers.clone();
+    let number = proved::sheet_words(tables.each_ref().map(Vec::as_slice), &sheet.questions, &mut answers);
+    Filled { number, answers }
+}
+
+/// The second program's.
+pub fn filled_by_second(sheet: &Sheet, tables: &Tables) -> Filled {
+    let mut answers = sheet.answers.clone();
+    let number = match second::sheet(tables, &sheet.questions, &mut answers) {
+        Ok(()) => 0,
+        Err(refusal) => refused(refusal).number,
+    };
+    Filled { number, answers }
 }
 
 /// The lengths of tables with room for so many lines.

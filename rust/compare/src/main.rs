@@ -1,21 +1,26 @@
 //! Compares the proved crates with the second program: loads of thousands of
-//! deliveries, soundness of tables, the desk's questions, and amendments.
+//! deliveries, soundness of tables, the desk's questions, sheets of them, and
+//! amendments.
 //!
-//! usage: compare [--loads | --questions | --amendments | --seed S --count N] [FOLDER]
+//! usage: compare [--loads | --questions | --sheets | --amendments | --seed S --count N] [FOLDER]
 //!
 //! With a seed and a count: so many deliveries of every sort from that seed on,
-//! questions and amendments. Else all loads, all questions, all amendments, or
-//! everything. Loads: deliveries of fixed seeds and of seeds that change with the
-//! date, every cause of every refusal, limits, large ones, ones with so many
-//! services that marks do not tell them apart, bytes replaced, files of the
-//! largest length. Questions: of a boat over the change of the clocks; the rank of
-//! every pattern of an exception's keys, and changes to which every two of them
-//! apply; of loaded and damaged tables and of texts, by such seeds; of tables with
-//! every word and row changed; of large ones.
-//! Amendments: up to twelve in a row by such seeds, of damaged tables, by every
-//! cause in a block, of large tables, by blocks of the largest length; each also
-//! held against the proved load of the edited text. Where the two differ, FOLDER
-//! gets a folder with the files or tables and both answers in `answers.txt`.
+//! questions, sheets and amendments. Else all loads, all questions, all sheets, all
+//! amendments, or everything. Loads: deliveries of fixed seeds and of seeds that
+//! change with the date, every cause of every refusal, limits, large ones, ones
+//! with so many services that marks do not tell them apart, bytes replaced, files
+//! of the largest length. Questions: of a boat over the change of the clocks; the
+//! rank of every pattern of an exception's keys, and changes to which every two of
+//! them apply; of loaded and damaged tables and of texts, by such seeds; of tables
+//! with every word and row changed; of large ones. Sheets: the changes of the boat,
+//! of every two patterns, of loaded tables and of large ones, all of one store by
+//! one call, each also held against the proved crates' single answer; those at the
+//! borders of their gaps; any number of changes in lists of any length, of loaded
+//! and damaged tables and of junk. Amendments: up to twelve in a row by such seeds,
+//! of damaged tables, by every cause in a block, of large tables, by blocks of the
+//! largest length; each also held against the proved load of the edited text. Where
+//! the two differ, FOLDER gets a folder with the files or tables and both answers
+//! in `answers.txt`.
 
 mod amended;
 mod asked;
@@ -29,6 +34,7 @@ mod lengths;
 mod long_blocks;
 mod made;
 mod options;
+mod sheets;
 
 use std::ops::Range;
 use std::process::ExitCode;
@@ -48,11 +54,12 @@ const FIXED: Range<u64> = 0..40_000;
 const OF_TODAY: u64 = 4_000;
 /// Every refusal is met so often in every file where it can occur.
 const OFTEN: usize = 20;
-/// The same of questions: those of every run, and those new each day.
+/// The same of questions, and of sheets of them: those of every run, and those new
+/// each day.
 const FIXED_QUESTIONS: Range<u64> = 0..2_500;
 const QUESTIONS_OF_TODAY: u64 = 250;
-/// Every outcome of a question and of soundness, and what is told of clocks and of
-/// exceptions, is met so often.
+/// Every outcome of a question, of a sheet and of soundness, and what is told of
+/// clocks and of exceptions, is met so often.
 const OUTCOMES_OFTEN: usize = 50;
 /// The same of amendments, in sequences.
 const FIXED_AMENDMENTS: Range<u64> = 0..700;
@@ -76,6 +83,7 @@ fn main() -> ExitCode {
         Part::Everything => compare_all(&mut comparison),
         Part::Loads => compare_loads(&mut comparison),
         Part::Questions => compare_questions(&mut comparison),
+        Part::Sheets => compare_sheets(&mut comparison),
         Part::Amendments => compare_amendments(&mut comparison),
         Part::Seeds(seeds) => compare_seeds(&mut comparison, seeds),
     };
@@ -100,6 +108,10 @@ fn compare_seeds(comparison: &mut Comparison, seeds: Range<u64>) -> io::Result<V
     desk.compare_seeds(seeds.clone(), if proved::EMULATED { SAMPLE } else { FULL })?;
     print_desk(&desk);
     let mut complaints: Vec<String> = odd(&tally).into_iter().chain(odd_questions(&desk)).collect();
+    let mut desk = sheets::Desk::new(comparison);
+    desk.compare_seeds(seeds.clone(), if proved::EMULATED { sheets::SAMPLE } else { sheets::FULL })?;
+    print_sheets(&desk);
+    complaints.extend(odd_sheets(desk));
     let mut desk = amended::Desk::new(comparison);
     desk.compare_seeds(seeds, if proved::EMULATED { amended::SAMPLE } else { amended::FULL })?;
     print_amendments(&desk);
@@ -111,6 +123,7 @@ fn compare_seeds(comparison: &mut Comparison, seeds: Range<u64>) -> io::Result<V
 fn compare_all(comparison: &mut Comparison) -> io::Result<Vec<String>> {
     let mut complaints = compare_loads(comparison)?;
     complaints.extend(compare_questions(comparison)?);
+    complaints.extend(compare_sheets(comparison)?);
     complaints.extend(compare_amendments(comparison)?);
     Ok(complaints)
 }
@@ -164,6 +177,37 @@ fn compare_questions(comparison: &mut Comparison) -> io::Result<Vec<String>> {
     print_desk(&desk);
     println!("Soundness and questions took {:.0?}.", start.elapsed());
     Ok(complaints)
+}
+
+fn compare_sheets(comparison: &mut Comparison) -> io::Result<Vec<String>> {
+    let start = Instant::now();
+    let mut desk = sheets::Desk::new(comparison);
+    desk.compare_known()?;
+    desk.compare_seeds(FIXED_QUESTIONS, sheets::FULL)?;
+    desk.compare_junk()?;
+    let mut complaints: Vec<String> = rare_outcomes(&desk.sheets, OUTCOMES_OFTEN)
+        .chain(rare_outcomes(&desk.changes, OUTCOMES_OFTEN))
+        .collect();
+    desk.compare_large()?;
+
+    let today = seeds_of_today(QUESTIONS_OF_TODAY);
+    println!("Seeds of today: compare --seed {} --count {QUESTIONS_OF_TODAY}", today.start);
+    desk.compare_seeds(today, sheets::FULL)?;
+    print_sheets(&desk);
+    complaints.extend(odd_sheets(desk));
+    println!("Sheets took {:.0?}.", start.elapsed());
+    Ok(complaints)
+}
+
+fn print_sheets(desk: &sheets::Desk) {
+    println!("{} sheets:\n{}", desk.total(), desk.sheets);
+    println!("{} changes on them:\n{}", desk.changes.total(), desk.changes);
+}
+
+/// What is wrong with sheets by the documents.
+fn odd_sheets(desk: sheets::Desk) -> Vec<String> {
+    let odd = odd_outcomes(&desk.sheets).chain(odd_outcomes(&desk.changes));
+    odd.chain(desk.complaints.iter().cloned()).collect()
 }
 
 fn compare_amendments(comparison: &mut Comparison) -> io::Result<Vec<String>> {

@@ -15,18 +15,21 @@ pub enum Part {
     Everything,
     Loads,
     Questions,
+    Sheets,
     Amendments,
-    /// Loads, questions and amendments of these seeds.
+    /// Loads, questions, sheets and amendments of these seeds.
     Seeds(Range<u64>),
 }
 
-pub const USAGE: &str = "usage: compare [--loads | --questions | --amendments | --seed S --count N] [FOLDER]";
+pub const USAGE: &str =
+    "usage: compare [--loads | --questions | --sheets | --amendments | --seed S --count N] [FOLDER]";
 
 pub fn asked(arguments: &[String]) -> Option<Options> {
     let arguments: Vec<&str> = arguments.iter().map(String::as_str).collect();
     let (part, rest) = match arguments[..] {
         ["--loads", ref rest @ ..] => (Part::Loads, rest),
         ["--questions", ref rest @ ..] => (Part::Questions, rest),
+        ["--sheets", ref rest @ ..] => (Part::Sheets, rest),
         ["--amendments", ref rest @ ..] => (Part::Amendments, rest),
         ["--seed", first, "--count", count, ref rest @ ..] => {
             let first: u64 = first.parse().ok()?;

@@ -97,6 +97,12 @@ pub fn large(seed: u64, services: usize, rising: bool) -> (World, Case) {
     shaped(&mut Rng::new(seed), &Shape::large(services, rising))
 }
 
+/// The same with services that meet: some thousand pairs of CHANGES and rows of
+/// XCHANGES at a few hundred stations, and most stations in neither.
+pub fn connected(seed: u64, services: usize, rising: bool) -> (World, Case) {
+    shaped(&mut Rng::new(seed), &Shape::connected(services, rising))
+}
+
 /// A sound delivery with this many services, some 10 lines each, in no order.
 pub fn crowded(seed: u64, services: usize) -> (World, Case) {
     shaped(&mut Rng::new(seed), &Shape { stops: 2..=3, ..Shape::large(services, false) })

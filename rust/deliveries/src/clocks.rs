@@ -5,7 +5,7 @@
 use crate::calendar;
 use crate::place::*;
 use crate::questions::{Question, Side};
-use crate::tables::{is_stop, rows_in_use, Tables, GROUP, NO_TIME};
+use crate::tables::{is_stop, minutes_of, rows_in_use, times_of, Tables, GROUP};
 
 const MINUTES_IN_DAY: i64 = 1_440;
 
@@ -125,13 +125,7 @@ impl Call {
         rows.find(|row| row[0] == GROUP && row[1] == side.service)?;
         let mut stops = rows.take_while(|row| row[0] != GROUP).filter(|row| is_stop(row));
         let row = stops.nth(usize::try_from(side.stop.checked_sub(1)?).ok()?)?;
-        let time = |place: usize| Some(row[place]).filter(|&time| time != NO_TIME);
-        let (arrival, departure) = match row[0] as u8 {
-            b'>' => (None, time(2)),
-            b'+' => (time(2), time(3)),
-            b'<' => (time(2), None),
-            _ => (time(2), time(2)),
-        };
+        let [arrival, departure] = times_of(row);
         let station = rows_in_use(tables, STATIONS).skip(1).find(|station| station[2] == row[1])?;
         Some(Call { zone: station[5], arrival, departure })
     }
@@ -139,7 +133,7 @@ impl Call {
 
 impl Timed {
     fn new(tables: &Tables, zone: u64, date: u64, time: u64) -> Timed {
-        let minutes = (time / 100 * 60 + time % 100) as i64;
+        let minutes = minutes_of(time);
         let service_day = calendar::counted(date);
         let own_day = service_day + minutes / MINUTES_IN_DAY;
         Timed {

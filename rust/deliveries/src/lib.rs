@@ -1,6 +1,6 @@
 //! Made-up IFF 4.2.4 deliveries for comparing two readers: sound ones with
 //! every record and option, damaged ones, ones at the limits and large ones;
-//! and, for a delivery, amendments and questions.
+//! and, for a delivery, amendments, questions and sheets of them.
 //!
 //! Everything follows from a seed, so a case that two readers disagree on can
 //! be made again.
@@ -10,6 +10,7 @@ pub mod calendar;
 pub mod cases;
 pub mod causes;
 pub mod clocks;
+pub mod connections;
 mod damage;
 pub mod exceptions;
 mod fields;
@@ -18,6 +19,7 @@ mod many;
 pub mod questions;
 mod rng;
 mod shape;
+pub mod sheets;
 pub mod tables;
 pub mod tally;
 mod text;
@@ -26,8 +28,8 @@ mod world;
 
 pub use amendments::{amendment, edited, Amendment};
 pub use cases::{
-    at_borders, crowded, damaged, excepted, large, limit, limits, mixed, of_each_sort, overnight, sound,
-    Case, Limit,
+    at_borders, connected, crowded, damaged, excepted, large, limit, limits, mixed, of_each_sort, overnight,
+    sound, Case, Limit,
 };
 pub use causes::{causes, Cause};
 pub use damage::{damage_file, TELLING_BYTES};
@@ -35,6 +37,7 @@ pub use many::{many, Many};
 pub use questions::{lines_in, name_in, question, question_on_tables, Question};
 pub use rng::Rng;
 pub use shape::Shape;
+pub use sheets::{sheet, Sheet};
 pub use tally::{can_occur, Outcomes, Tally};
 pub use ways::{Caused, Way, WAYS};
 pub use world::World;

@@ -154,6 +154,7 @@ fn few() -> Shape {
         at_borders: false,
         overnight: false,
         repeated: false,
+        meeting: false,
         changes: true,
         xfootnotes: true,
         xchanges: true,

@@ -61,7 +61,7 @@ fn lines_now(rng: &mut Rng, world: &World) -> Question {
 
 /// A change at a station of two services where there is one, mostly; else any
 /// two sides.
-fn change(rng: &mut Rng, world: &World) -> (Side, Side) {
+pub fn change(rng: &mut Rng, world: &World) -> (Side, Side) {
     if world.services.is_empty() || rng.percent(15) {
         return (side(rng, world), side(rng, world));
     }

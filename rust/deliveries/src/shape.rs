@@ -32,6 +32,8 @@ pub struct Shape {
     pub overnight: bool,
     /// Whether exceptions often have the keys of one before, with another footnote.
     pub repeated: bool,
+    /// Whether the pairs of CHANGES are of services that call at the station.
+    pub meeting: bool,
     /// Whether the last three files are there at all.
     pub changes: bool,
     pub xfootnotes: bool,
@@ -59,6 +61,7 @@ impl Shape {
             at_borders: false,
             overnight: false,
             repeated: false,
+            meeting: false,
             changes: rng.percent(70),
             xfootnotes: xchanges || rng.percent(30),
             xchanges,
@@ -144,9 +147,23 @@ impl Shape {
             at_borders: false,
             overnight: false,
             repeated: false,
+            meeting: false,
             changes: true,
             xfootnotes: true,
             xchanges: true,
+        }
+    }
+
+    /// A national timetable as connection sheets meet it: however many services
+    /// there are, some thousand pairs of CHANGES and rows of XCHANGES under a few
+    /// hundred stations of each, and most stations in neither.
+    pub fn connected(services: usize, rising: bool) -> Shape {
+        Shape {
+            stations: 1_200..=1_200,
+            change_stations: 300..=300,
+            change_rows: 0..=20,
+            meeting: true,
+            ..Shape::large(services, rising)
         }
     }
 }

@@ -364,6 +364,22 @@ fn add_day(tables: &mut Tables) {
 /// What `+` has where nobody alights or boards.
 pub const NO_TIME: u64 = 9_999;
 
+/// Arrival and departure of a stop as written, HHMM.
+pub fn times_of(stop: &[u64]) -> [Option<u64>; 2] {
+    let time = |place: usize| Some(stop[place]).filter(|&time| time != NO_TIME);
+    match stop[0] as u8 {
+        b'>' => [None, time(2)],
+        b'+' => [time(2), time(3)],
+        b'<' => [time(2), None],
+        _ => [time(2), time(2)],
+    }
+}
+
+/// The minutes of a time, HHMM.
+pub fn minutes_of(time: u64) -> i64 {
+    (time / 100 * 60 + time % 100) as i64
+}
+
 /// Has a service leave a stop so many minutes later, or earlier, with no other
 /// time but an arrival that is the same; not where there is no such time.
 pub fn delay(tables: &mut Tables, service: u64, stop: u64, minutes: i64) -> Option<()> {

@@ -219,6 +219,41 @@ pub const OF_SOUNDNESS: &[&str] = &[
     "unused places or derived words",
 ];
 
+/// What sheets can come to, and how long their lists then are.
+pub const OF_SHEETS: &[&str] = &[
+    "answered",
+    "answered: no question",
+    "answered: no question and no place",
+    "answered: one question",
+    "answered: a hundred questions and more",
+    "answered: just as many places",
+    "answered: one place more",
+    "answered: several places more",
+    "answered: words over in the questions",
+    "answered: words over in the list",
+    "answered: all but one of a question's words over",
+    "answered: all but one of an answer's words over",
+    "answered: questions refused by themselves",
+    "answered: the first refused by itself, and not the last",
+    "answered: the last refused by itself, and not the first",
+    "answered: a gap below zero",
+    "refused 16",
+    "refused 16: no question",
+    "refused 16: too few places",
+    "refused 23",
+    "refused 23: no place",
+    "refused 23: one place too few",
+    "refused 23: one word too few",
+    "refused 23: no fewer words than the questions have",
+];
+
+/// What the changes on a sheet can come to: what a single one can, but for 16, to
+/// which the sheet comes as a whole.
+pub fn of_changes_on_sheets() -> Vec<&'static str> {
+    let changes = OF_QUESTIONS.iter().filter(|outcome| outcome.starts_with("change: "));
+    changes.copied().filter(|outcome| *outcome != "change: refused 16").collect()
+}
+
 /// What amendments can come to. No file is absent (3) and no first line touched
 /// (6), and a block under its own service's name repeats no key (8). Refusal 1
 /// takes blocks so long that they are counted apart.
@@ -255,13 +290,13 @@ pub const OF_LONG_BLOCKS: &[&str] =
 /// Counts of outcomes, of which some are expected.
 #[derive(Clone, Debug)]
 pub struct Outcomes {
-    expected: &'static [&'static str],
+    expected: Vec<&'static str>,
     counts: BTreeMap<String, usize>,
 }
 
 impl Outcomes {
-    pub fn new(expected: &'static [&'static str]) -> Outcomes {
-        Outcomes { expected, counts: BTreeMap::new() }
+    pub fn new(expected: &[&'static str]) -> Outcomes {
+        Outcomes { expected: expected.to_vec(), counts: BTreeMap::new() }
     }
 
     pub fn count(&mut self, outcome: String) {

@@ -1,6 +1,6 @@
 //! A sound delivery, file by file.
 
-use std::collections::HashSet;
+use std::collections::{HashMap, HashSet};
 
 use crate::calendar;
 use crate::place::*;
@@ -479,18 +479,32 @@ fn change_stations<'a>(rng: &mut Rng, shape: &Shape, world: &'a World) -> Vec<&'
 }
 
 fn write_changes(rng: &mut Rng, shape: &Shape, world: &World, file: &mut Lines) {
+    let all: Vec<u64> = world.services.iter().map(|service| service.number).collect();
+    let calling = if shape.meeting { calling(world) } else { HashMap::new() };
     for station in change_stations(rng, shape, world) {
         file.line(&[b"#", station]);
+        let services = calling.get(station).unwrap_or(&all);
         let mut taken = HashSet::new();
-        let rows = if world.services.is_empty() { 0 } else { rng.within(&shape.change_rows) };
+        let rows = if services.is_empty() { 0 } else { rng.within(&shape.change_rows) };
         for _ in 0..rows {
-            let pair = (rng.pick(&world.services).number, rng.pick(&world.services).number);
+            let pair = (*rng.pick(services), *rng.pick(services));
             if taken.insert(pair) {
                 let possibility = number(rng.below(3) as u64, 2);
                 file.line(&[b"-", &number(pair.0, 8), b",", &number(pair.1, 8), b",", &possibility]);
             }
         }
     }
+}
+
+/// The services that call at each station where one does.
+fn calling(world: &World) -> HashMap<&Vec<u8>, Vec<u64>> {
+    let mut calling: HashMap<&Vec<u8>, Vec<u64>> = HashMap::new();
+    for service in &world.services {
+        for &stop in &service.stops {
+            calling.entry(&world.stations[stop]).or_default().push(service.number);
+        }
+    }
+    calling
 }
 
 fn write_xchanges(rng: &mut Rng, shape: &Shape, world: &World, file: &mut Lines) {

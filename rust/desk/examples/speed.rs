@@ -3,16 +3,21 @@
 //!
 //! cargo run --release --example speed -- [SERVICES [QUESTIONS]]
 
-use std::fs;
-use std::io::Write;
-use std::path::{Path, PathBuf};
-use std::process::{Command, Stdio};
-use std::time::Instant;
+mod runs;
 
-use deliveries::{folder, large, question_on_tables, Case, Question, Rng, World};
+use std::collections::HashMap;
+use std::fs;
+use std::path::{Path, PathBuf};
+
+use deliveries::place::TIMETBLS;
+use deliveries::{calendar, folder, large, question_on_tables, Case, Question, Rng, World};
+use runs::{program, Times};
 
 /// Rounds, of which the best times are taken.
 const ROUNDS: usize = 10;
+
+/// So many questions that test soundness each by itself are asked.
+const BY_THEMSELVES: usize = 64;
 
 /// How often a round runs a command. The first run may find that the machine has
 /// taken back the memory that the one before had.
@@ -37,23 +42,7 @@ fn measure(work: &Path, services: usize, questions: usize) {
     println!("{services} services, {lines} lines, {megabytes:.1} MB; the best of {ROUNDS} rounds, from start to exit of the program.\n");
 
     let program = program();
-    let run = |words: &[&str], paths: &[&Path], input: &str| {
-        let mut process = Command::new(&program)
-            .arg(words[0])
-            .args(paths)
-            .args(&words[1..])
-            .stdin(Stdio::piped())
-            .stdout(Stdio::piped())
-            .spawn()
-            .expect("the program runs");
-        let mut pipe = process.stdin.take().expect("its input");
-        let input = input.to_string();
-        let writing = std::thread::spawn(move || drop(pipe.write_all(input.as_bytes())));
-        let output = process.wait_with_output().expect("the program ends");
-        writing.join().expect("the input is written");
-        assert!(matches!(output.status.code(), Some(0 | 3 | 4)), "{words:?}: {output:?}");
-        output
-    };
+    let run = |words: &[&str], paths: &[&Path], input: &str| runs::run(&program, words, paths, input);
     let mut rng = Rng::new(1);
     let asked = change(&mut rng, &world, &case);
     let change: Vec<&str> = asked.split(' ').collect();
@@ -63,8 +52,12 @@ fn measure(work: &Path, services: usize, questions: usize) {
     fs::write(&file, block).expect("the block is written");
     let file = file.to_str().expect("a path in UTF-8").to_string();
 
-    let mut times: [Times; 8] = Default::default();
-    let [second, load, sound, start, check, open, changed, amended] = &mut times;
+    let [code, date] = busiest(&world, &case);
+    let sheet = ["sheet", "--json", "--", &code, &date];
+    let counts = counts(&run(&sheet, &[&store], "").stdout);
+
+    let mut times: [Times; 9] = Default::default();
+    let [second, load, sound, start, check, open, changed, amended, sheets] = &mut times;
     for _ in 0..ROUNDS {
         let lengths: [usize; 11] =
             std::array::from_fn(|file| second::count_lines(&case.files[file]) * WIDTHS[file]);
@@ -84,6 +77,7 @@ fn measure(work: &Path, services: usize, questions: usize) {
             check.of(|| drop(run(&["check"], &[&delivery], "")));
             changed.of(|| drop(run(&change, &[&store], "")));
             amended.of(|| drop(run(&["amend", &service, &file], &[&store], "")));
+            sheets.of(|| drop(run(&sheet, &[&store], "")));
         }
         open.of(|| drop(run(&["open", "--replace"], &[&delivery, &store], "")));
     }
@@ -98,6 +92,7 @@ fn measure(work: &Path, services: usize, questions: usize) {
     row("soundness, in this process", sound);
     row("`--version`: start and exit alone", start);
     row("`change`", changed);
+    row(&format!("`sheet` of the busiest station: {counts}"), sheets);
     row("`check`", check);
     row("`open`", open);
     row("`amend`", amended);
@@ -114,17 +109,42 @@ fn measure(work: &Path, services: usize, questions: usize) {
     };
     beside("`check`", check, "the load", load, "files that are read and memory for the tables");
     beside("`change`", changed, "soundness", sound, "lookups, names and pages that are mapped");
+    beside("`sheet`", sheets, "soundness", sound, "what it lists, its changes and its text");
     if questions > 0 {
-        let input: String =
-            (0..questions).map(|_| line(&question_on_tables(&mut rng, &world)) + "\n").collect();
-        let mut asked = Times::default();
-        asked.of(|| {
-            let said = run(&["ask"], &[&store], &input);
-            assert_eq!(said.stdout.iter().filter(|&&byte| byte == b'\n').count(), questions);
-        });
-        let (all, each) = (asked.best(), asked.best() * 1e3 / questions as f64);
-        println!("`ask` with {questions} questions: {all:.1} s, {each:.1} ms each.");
+        let is_change = |question: &Question| matches!(question, Question::Change { .. });
+        let mut any = std::iter::repeat_with(|| question_on_tables(&mut rng, &world));
+        let changes: Vec<Question> = any.by_ref().filter(is_change).take(questions).collect();
+        let others: Vec<Question> = any.filter(|question| !is_change(question)).take(BY_THEMSELVES).collect();
+        for (what, asked) in [("changes", changes), ("`runs` and `stop`", others)] {
+            let input: String = asked.iter().map(|question| line(question) + "\n").collect();
+            let mut times = Times::default();
+            times.of(|| {
+                let said = run(&["ask"], &[&store], &input);
+                assert_eq!(said.stdout.iter().filter(|&&byte| byte == b'\n').count(), asked.len());
+            });
+            let (count, all, each) = (asked.len(), times.best(), times.best() * 1e3 / asked.len() as f64);
+            println!("`ask` with {count} {what}: {all:.3} s, {each:.2} ms each.");
+        }
     }
+}
+
+/// The station at which most services call, and a day in the middle of validity.
+fn busiest(world: &World, case: &Case) -> [String; 2] {
+    let mut calls: HashMap<&[u8], usize> = HashMap::new();
+    let is_stop = |line: &&[u8]| line.first().is_some_and(|letter| b">.+<".contains(letter));
+    for line in case.files[TIMETBLS].split(|&byte| byte == b'\n').filter(is_stop) {
+        *calls.entry(&line[1..8]).or_default() += 1;
+    }
+    let (code, _) = calls.into_iter().max_by_key(|(code, calls)| (*calls, *code)).expect("a station");
+    let day = world.first_day + world.days as i64 / 2;
+    [code.iter().map(|&byte| char::from(byte)).collect(), format!("{:08}", calendar::written(day))]
+}
+
+/// How much is on a sheet.
+fn counts(sheet: &[u8]) -> String {
+    let sheet: serde_json::Value = serde_json::from_slice(sheet).expect("a sheet in JSON");
+    let counts = &sheet["counts"];
+    format!("{} arrivals, {} changes", counts["arrivals"], counts["changes"])
 }
 
 const WIDTHS: [usize; 11] = [6, 6, 6, 6, 6, 6, 14, 7, 6, 14, 7];
@@ -136,12 +156,6 @@ fn made(
 ) -> PathBuf {
     run(&["open"], &[delivery, store], "");
     store.to_path_buf()
-}
-
-/// The program stands beside the folder of examples.
-fn program() -> PathBuf {
-    let own = std::env::current_exe().expect("this program's path");
-    own.parent().and_then(Path::parent).expect("target/release").join("calyxcabin")
 }
 
 /// A change that comes as far as a needed time, by the second program.
@@ -169,26 +183,5 @@ fn line(question: &Question) -> String {
             format!("change {} {} {} {} {} {}", a.service, a.stop, a.date, b.service, b.stop, b.date)
         }
         other => unreachable!("{other:?} is not asked of tables"),
-    }
-}
-
-/// The times of the same work, in seconds.
-#[derive(Default)]
-struct Times(Vec<f64>);
-
-impl Times {
-    fn of(&mut self, work: impl FnOnce()) {
-        let start = Instant::now();
-        work();
-        self.0.push(start.elapsed().as_secs_f64());
-        self.0.sort_by(f64::total_cmp);
-    }
-
-    fn best(&self) -> f64 {
-        self.0[0]
-    }
-
-    fn median(&self) -> f64 {
-        self.0[self.0.len() / 2]
     }
 }

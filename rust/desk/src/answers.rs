@@ -1,6 +1,7 @@
 //! Answers in JSON. The keys are written down in docs/PROGRAM.md.
 
 use proved::{Answer, Change, Reason, Refusal, Running, Source, StopTimes, Time, Verdict};
+use serde::{Serialize, Serializer};
 use serde_derive::Serialize;
 
 use crate::dates;
@@ -370,6 +371,129 @@ pub struct Caller {
     pub stop: u64,
     pub arrival: Option<i64>,
     pub departure: Option<i64>,
+}
+
+/// A date DDMMYYYY, told with its eight digits.
+#[derive(Clone, Copy, Debug, PartialEq, Eq)]
+pub struct Date(pub u64);
+
+impl Serialize for Date {
+    fn serialize<S: Serializer>(&self, serializer: S) -> Result<S::Ok, S::Error> {
+        serializer.collect_str(&format_args!("{:08}", self.0))
+    }
+}
+
+/// The connection sheet of a station on a date.
+#[derive(Serialize)]
+pub struct Sheet<'a> {
+    pub station: String,
+    pub name: Option<String>,
+    pub date: Date,
+    /// The first and the last minute of the day of which arrivals are told.
+    pub from: i64,
+    pub to: i64,
+    /// Departures are told up to so many minutes after an arrival.
+    pub within: i64,
+    pub delivery: SheetDelivery,
+    pub counts: SheetCounts,
+    pub arrivals: Vec<Arrival<'a>>,
+    /// What the sheet lacks, since the delivery does.
+    pub notes: Vec<String>,
+}
+
+/// The delivery that a sheet is from.
+#[derive(Serialize)]
+pub struct SheetDelivery {
+    pub version: u64,
+    pub first: Date,
+    pub last: Date,
+    pub amendments: u64,
+}
+
+#[derive(Serialize, Default)]
+pub struct SheetCounts {
+    pub arrivals: usize,
+    pub changes: usize,
+    pub yes: usize,
+    pub no: usize,
+    pub unsettled: usize,
+    pub refused: usize,
+}
+
+impl SheetCounts {
+    pub fn count(&mut self, answer: &Result<Change, Refusal>) {
+        self.changes += 1;
+        *match answer.map(|change| change.verdict) {
+            Ok(Verdict::Yes) => &mut self.yes,
+            Ok(Verdict::No(_)) => &mut self.no,
+            Ok(Verdict::Unsettled) => &mut self.unsettled,
+            Err(_) => &mut self.refused,
+        } += 1;
+    }
+}
+
+/// An arrival, and the changes from it.
+#[derive(Serialize)]
+pub struct Arrival<'a> {
+    #[serde(flatten)]
+    pub call: &'a SheetCall,
+    pub changes: Vec<Onward<'a>>,
+}
+
+/// A service at the sheet's station.
+#[derive(Serialize)]
+pub struct SheetCall {
+    pub service: u64,
+    pub stop: u64,
+    /// The date of its first departure, by which a change is asked for.
+    pub service_date: Date,
+    /// Minutes on the station's clocks from 0000 of that day, and the date on which
+    /// they fall.
+    pub local: i64,
+    pub date: Option<Date>,
+    pub company: u64,
+    pub company_code: Option<String>,
+    pub company_name: Option<String>,
+    pub number: u64,
+    pub mode: String,
+    /// Where a service that arrives begins.
+    #[serde(skip_serializing_if = "Option::is_none")]
+    pub origin: Option<Named>,
+    /// Where a service that departs ends.
+    #[serde(skip_serializing_if = "Option::is_none")]
+    pub destination: Option<Named>,
+}
+
+#[derive(Serialize)]
+pub struct Named {
+    pub station: String,
+    pub name: Option<String>,
+}
+
+/// A change from an arrival to a departure.
+pub struct Onward<'a> {
+    pub answer: Result<Change, Refusal>,
+    /// The line of the source that it rests on.
+    pub line: Option<u64>,
+    pub to: &'a SheetCall,
+}
+
+impl Serialize for Onward<'_> {
+    fn serialize<S: Serializer>(&self, serializer: S) -> Result<S::Ok, S::Error> {
+        #[derive(Serialize)]
+        struct Told<'a, A> {
+            #[serde(flatten)]
+            answer: A,
+            #[serde(skip_serializing_if = "Option::is_none")]
+            line: Option<u64>,
+            to: &'a SheetCall,
+        }
+        let Onward { answer, line, to } = *self;
+        match answer {
+            Ok(change) => Told { answer: Changed::of(&change), line, to }.serialize(serializer),
+            Err(refusal) => Told { answer: Refused::nowhere(refusal), line, to }.serialize(serializer),
+        }
+    }
 }
 
 /// One line of JSON.

@@ -3,8 +3,8 @@
 //! The needed time is the proved answer's; places on the card are the proved
 //! `rank`'s. What is found here is shown only where it comes to that needed time.
 
-use std::cell::LazyCell;
 use std::cmp::Reverse;
+use std::collections::HashMap;
 
 use proved::{Change, Keys, Side, Source};
 
@@ -14,7 +14,7 @@ use crate::explain::questions::code;
 use crate::files::latin;
 use crate::files::place::*;
 use crate::records::{pack, unpack};
-use crate::tables::{Service, Tables};
+use crate::tables::{has, Group, Service, Tables};
 use crate::trouble::Trouble;
 
 /// `*` and blanks, packed, as docs/TABLES.md has them.
@@ -143,44 +143,57 @@ impl Exception {
     }
 }
 
-/// The exceptions that apply to a change between two services as the tables have
-/// them, in the order of the file; none where the tables do not show what was asked.
-pub fn applied(
-    tables: &Tables,
-    [left, boarded]: [Option<Service>; 2],
-    from: Side,
-    to: Side,
-) -> Option<Vec<Exception>> {
-    let (left, boarded) = (left?, boarded?);
-    // A comes along the leg before its stop, B goes on along the leg after it.
-    let (from_leg, to_leg) = (from.stop.checked_sub(1)?, to.stop);
-    let ridden = Keys {
-        from_company: on_leg(left, b'%', from_leg)?,
-        from_mode: on_leg(left, b'&', from_leg)?,
-        to_company: on_leg(boarded, b'%', to_leg)?,
-        to_mode: on_leg(boarded, b'&', to_leg)?,
-    };
-    let station = left.stop(from.stop)?.station;
-    let day = dates::count(from.date)? - dates::count(tables.validity().first)?;
-    let day = usize::try_from(day).ok()?;
-    let marked = LazyCell::new(|| tables.marked_on(XFOOTNOTE, day));
-    let is_opening = |row: &[u64]| row[0] == u64::from(b'#');
-    // A row stands for a line.
-    let rows = tables.rows(XCHANGES).zip(1..).skip_while(|(row, _)| !(is_opening(row) && row[1] == station));
-    let under = rows.skip(1).take_while(|(row, _)| !is_opening(row));
-    let applied = under.filter_map(|(row, line)| {
-        let keys = Keys { from_company: row[1], from_mode: row[2], to_company: row[3], to_mode: row[4] };
-        let exception =
-            || Exception { line, keys, time: row[5], footnote: row[6], place: proved::rank(keys) };
-        (fits(&keys, &ridden) && marked.contains(&row[6])).then(exception)
-    });
-    Some(applied.collect())
+/// The exceptions of a store, by station, and the days on which they hold.
+pub struct Exceptions<'t> {
+    groups: HashMap<u64, Group<'t>>,
+    vectors: HashMap<u64, &'t [u64]>,
+    /// The first day of validity.
+    first: Option<i64>,
 }
 
-/// What a service has on a leg: its company by `%`, its mode by `&`.
-fn on_leg(service: Service, letter: u8, leg: u64) -> Option<u64> {
-    let first = if letter == b'%' { 3 } else { 2 };
-    service.records(letter).find(|row| (row[first]..row[first + 1]).contains(&leg)).map(|row| row[1])
+impl<'t> Exceptions<'t> {
+    pub fn of(tables: &'t Tables) -> Exceptions<'t> {
+        Exceptions {
+            groups: tables.groups(XCHANGES).map(|group| (group.key, group)).collect(),
+            vectors: tables.vectors(XFOOTNOTE),
+            first: dates::count(tables.validity().first),
+        }
+    }
+
+    /// Those that apply to a change between two services, in the order of the file;
+    /// none where the tables do not show what was asked.
+    pub fn between(
+        &self,
+        [left, boarded]: [Option<Service>; 2],
+        from: Side,
+        to: Side,
+    ) -> Option<Vec<Exception>> {
+        let (left, boarded) = (left?, boarded?);
+        // A comes along the leg before its stop, B goes on along the leg after it.
+        let (from_leg, to_leg) = (from.stop.checked_sub(1)?, to.stop);
+        let ridden = Keys {
+            from_company: left.on_leg(b'%', from_leg)?[1],
+            from_mode: left.on_leg(b'&', from_leg)?[1],
+            to_company: boarded.on_leg(b'%', to_leg)?[1],
+            to_mode: boarded.on_leg(b'&', to_leg)?[1],
+        };
+        self.applied(left.stop(from.stop)?.station, &ridden, from.date)
+    }
+
+    /// Those of a station that fit what is ridden, on the date of the service that
+    /// one leaves; none where that is no date of validity.
+    pub fn applied(&self, station: u64, ridden: &Keys, date: u64) -> Option<Vec<Exception>> {
+        let day = usize::try_from(dates::count(date)? - self.first?).ok()?;
+        let is_marked = |footnote: u64| self.vectors.get(&footnote).is_some_and(|vector| has(vector, day));
+        let rows = self.groups.get(&station).into_iter().flat_map(|group| group.rows());
+        let applied = rows.filter_map(|(row, line)| {
+            let keys = Keys { from_company: row[1], from_mode: row[2], to_company: row[3], to_mode: row[4] };
+            let exception =
+                || Exception { line, keys, time: row[5], footnote: row[6], place: proved::rank(keys) };
+            (fits(&keys, ridden) && is_marked(row[6])).then(exception)
+        });
+        Some(applied.collect())
+    }
 }
 
 fn fits(keys: &Keys, ridden: &Keys) -> bool {
@@ -230,6 +243,11 @@ pub fn reasoned(change: &Change, applied: impl FnOnce() -> Option<Vec<Exception>
 }
 
 impl Reasoned {
+    /// The line of the exception that counts.
+    pub fn line(&self) -> Option<u64> {
+        self.exceptions.first().map(|best| best.line)
+    }
+
     /// What is said beside a needed time of XCHANGES.
     pub fn text(&self, station: u64) -> String {
         let mut text = format!("  card    {}\n", self.sentence(station));
@@ -356,7 +374,7 @@ mod tests {
     const TO: Side = Side { service: 2, stop: 1, date: 2_012_015 };
 
     fn found(tables: &Tables, from: Side, to: Side) -> Option<Vec<Exception>> {
-        applied(tables, [from, to].map(|side| tables.service(side.service)), from, to)
+        Exceptions::of(tables).between([from, to].map(|side| tables.service(side.service)), from, to)
     }
 
     /// The needed time as it is proved, and what is said of it.

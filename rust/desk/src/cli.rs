@@ -2,10 +2,13 @@
 
 use std::path::PathBuf;
 
-use clap::{Parser, Subcommand};
+use clap::error::ErrorKind;
+use clap::{Args, CommandFactory, Parser, Subcommand};
 use clap_complete::Shell;
 
 use crate::dates;
+use crate::explain::questions::packed;
+use crate::sheet::Wanted;
 
 const ABOUT: &str = "\
 Is that change safe to sell? Checks timetable deliveries (IFF 4.2.4), keeps them in stores,
@@ -23,7 +26,7 @@ decided is decided by functions that are proved.";
 )]
 pub struct Cli {
     /// Answer with one JSON object on one line.
-    #[arg(long, global = true)]
+    #[arg(long, global = true, display_order = 100)]
     pub json: bool,
     #[command(subcommand)]
     pub command: Command,
@@ -164,6 +167,17 @@ Example:
         /// Its short name in STATIONS
         code: String,
     },
+    /// Show a station's connection sheet: each arrival of a day, and the changes from it
+    #[command(after_help = "\
+Arrivals are those whose time falls on DATE by the station's clocks, whatever their service day.
+Below each stand the departures after it, from its own minute on; services that do not run then
+are left out. Into a spreadsheet or a program it goes as --csv or --json, onto paper as --html.
+
+Example:
+  calyxcabin sheet night-boats HVH 2015-12-15
+  calyxcabin sheet night-boats HVH 2015-12-15 --from 06:00 --to 12:00 --within 90
+  calyxcabin sheet night-boats HVH 2015-12-15 --html > sheet.html")]
+    Sheet(SheetAsked),
     /// Show a service's lines as they stand now
     #[command(after_help = "\
 Into a file or a pipe they go byte by byte, with CR LF: to be edited, and amended with.
@@ -226,6 +240,65 @@ Example:
         /// The shell
         shell: Shell,
     },
+}
+
+/// What a sheet is asked for.
+#[derive(Args)]
+pub struct SheetAsked {
+    /// The store's folder
+    pub store: PathBuf,
+    /// The station's short name in STATIONS
+    pub station: String,
+    /// The day on which services arrive
+    #[arg(value_parser = dates::parse)]
+    pub date: u64,
+    /// Arrivals from this time of the day on
+    #[arg(long, value_name = "HH:MM", default_value = "00:00", value_parser = dates::time_of_day)]
+    pub from: i64,
+    /// Arrivals up to this time of the day, which counts too
+    #[arg(long, value_name = "HH:MM", default_value = "23:59", value_parser = dates::time_of_day)]
+    pub to: i64,
+    /// Departures up to so many minutes after an arrival, by the reference clock
+    #[arg(long, value_name = "MINUTES", default_value_t = 240, value_parser = clap::value_parser!(i64).range(0..=10_080))]
+    pub within: i64,
+    /// Answer with a page to be printed
+    #[arg(long, conflicts_with = "csv")]
+    pub html: bool,
+    /// Answer with comma-separated values, one row a change
+    #[arg(long)]
+    pub csv: bool,
+}
+
+impl SheetAsked {
+    pub fn wanted(&self) -> Wanted {
+        let &SheetAsked { date, from, to, within, .. } = self;
+        Wanted { station: packed(&self.station), date, from, to, within }
+    }
+
+    fn mistake(&self, json: bool) -> Option<(ErrorKind, String)> {
+        let form = if self.html { "--html" } else { "--csv" };
+        if json && (self.html || self.csv) {
+            let why = format!("the argument '--json' cannot be used with '{form}'");
+            return Some((ErrorKind::ArgumentConflict, why));
+        }
+        let [from, to] = [self.from, self.to].map(dates::face);
+        let why = format!(
+            "`--from {from}` is after `--to {to}`. A sheet is of one day: give the earlier time first."
+        );
+        (self.from > self.to).then_some((ErrorKind::ValueValidation, why))
+    }
+}
+
+impl Cli {
+    /// What is wrong with a command line whose words are right one by one.
+    pub fn mistake(&self) -> Option<clap::Error> {
+        let Command::Sheet(asked) = &self.command else { return None };
+        let (kind, why) = asked.mistake(self.json)?;
+        let mut whole = Cli::command();
+        whole.build();
+        let command = whole.find_subcommand_mut("sheet")?;
+        Some(command.error(kind, why))
+    }
 }
 
 fn number(text: &str) -> Result<u64, String> {

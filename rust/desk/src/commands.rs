@@ -6,8 +6,8 @@ use std::path::Path;
 use proved::{Answer, Change, Reason, Refusal, Running, Side, Source, Verdict};
 
 use crate::answers::{self, json, Accepted, Changed, Name, Refused, Runs, TextLines};
-use crate::card;
-use crate::cli::Command;
+use crate::card::{self, Exceptions};
+use crate::cli::{Command, SheetAsked};
 use crate::dates::{self, clock, date, time_on};
 use crate::explain::questions::{packed, question, Asked};
 use crate::explain::{self, Explanation, Whose};
@@ -17,9 +17,10 @@ use crate::loading::{load_texts, rooms_with, Rooms, Spare};
 use crate::names::Names;
 use crate::progress::Progress;
 use crate::records::unpack;
+use crate::sheet;
 use crate::show;
 use crate::speech::{counted, refusal, Colour};
-use crate::store::{keep, Lock, Replacing, Store};
+use crate::store::{keep, note, Lock, Replacing, Store};
 use crate::tables::{Service, Station, Tables};
 use crate::trouble::Trouble;
 
@@ -34,11 +35,13 @@ pub struct Told {
     pub status: u8,
     pub text: Vec<u8>,
     pub json: String,
+    /// Whether the text goes to standard error: it is not what was asked for.
+    pub aside: bool,
 }
 
 impl Told {
-    fn new(status: u8, text: impl Into<Vec<u8>>, json: String) -> Told {
-        Told { status, text: text.into(), json }
+    pub fn new(status: u8, text: impl Into<Vec<u8>>, json: String) -> Told {
+        Told { status, text: text.into(), json, aside: false }
     }
 
     fn refused(told: &Explanation, desk: &Desk) -> Told {
@@ -57,6 +60,8 @@ struct Loaded {
 pub struct Desk {
     pub progress: Progress,
     pub colour: Colour,
+    /// Whether JSON is asked for, of what is made in one form alone.
+    pub json: bool,
 }
 
 impl Desk {
@@ -99,6 +104,7 @@ impl Desk {
             &Command::Stop { ref store, service, stop, date } => self.stop(store, service, stop, date),
             &Command::Service { ref store, service, date } => self.service(store, service, date),
             Command::Station { store, code } => self.station(store, code),
+            Command::Sheet(asked) => self.sheet(asked),
             &Command::Lines { ref store, service } => self.lines(store, service),
             &Command::Amend { ref store, service, ref file } => self.amend(store, service, file),
             Command::Card => card(),
@@ -254,7 +260,7 @@ impl Desk {
                 let services = [from, to].map(|side| tables.service(side.service));
                 let stops = [(services[0], from), (services[1], to)]
                     .map(|(service, side)| service.and_then(|service| service.stop(side.stop)));
-                (stops, card::applied(tables, services, from, to))
+                (stops, Exceptions::of(tables).between(services, from, to))
             },
         )?;
         let change = match answer {
@@ -263,7 +269,7 @@ impl Desk {
         };
         let names = Names::of(&store)?;
         let [Some(left), Some(boarded)] = stops else {
-            return Err(Trouble::new("The store's tables do not show what was answered from them."));
+            return Err(Trouble::not_shown());
         };
         let (arrival, departure) = (left.arrival.map(clock), boarded.departure.map(clock));
         let (verdict, status) = match change.verdict {
@@ -367,6 +373,35 @@ impl Desk {
         Ok(Told::new(DONE, text, json(&shown)))
     }
 
+    fn sheet(&self, asked: &SheetAsked) -> Result<Told, Trouble> {
+        let mut store = self.read(&asked.store)?;
+        let wanted = asked.wanted();
+        let answered = match store.ask(&self.progress, |tables| sheet::answered(tables, &wanted))? {
+            Ok(answered) => answered,
+            Err(refusal) => {
+                let asked_for = Asked::Sheet { station: &asked.station, date: asked.date };
+                let told = self.question(&mut store, refusal, asked_for);
+                // A page or rows that are written into a file have no refusal in them.
+                return Ok(Told { aside: asked.html || asked.csv, ..told });
+            }
+        };
+        let calls = sheet::Calls::of(&store, &answered)?;
+        let shown = sheet::told(&store, &wanted, &answered, &calls)?;
+        // A long sheet takes its time in each form.
+        if self.json {
+            return Ok(Told::new(DONE, "", json(&shown)));
+        }
+        let text = match (asked.html, asked.csv) {
+            (true, _) => sheet::html(&shown),
+            (_, true) => {
+                shown.notes.iter().for_each(|sentence| note(sentence));
+                sheet::csv(&shown)
+            }
+            _ => sheet::text(&shown, self.colour),
+        };
+        Ok(Told::new(DONE, text, String::new()))
+    }
+
     fn lines(&self, root: &Path, service: u64) -> Result<Told, Trouble> {
         let mut store = self.read(root)?;
         let lines_now = match store.lines(service)? {
@@ -465,7 +500,7 @@ fn amendment_refused(store: &Store, service: u64, block: &[u8], answer: &Answer)
     told
 }
 
-fn source_name(source: Source) -> &'static str {
+pub fn source_name(source: Source) -> &'static str {
     match source {
         Source::Changes => "CHANGES",
         Source::Stations => "STATIONS",

@@ -19,7 +19,7 @@ const MONTHS: [&str; 12] = [
 /// The days of the week from 1 January 1600, a Saturday, on.
 const WEEKDAYS: [&str; 7] = ["Sat", "Sun", "Mon", "Tue", "Wed", "Thu", "Fri"];
 
-const MINUTES_IN_DAY: i64 = 1440;
+pub const MINUTES_IN_DAY: i64 = 1440;
 
 /// The number DDMMYYYY of a date as 05122015, 2015-12-05 or `5 Dec 2015`.
 pub fn parse(text: &str) -> Result<u64, String> {
@@ -64,6 +64,20 @@ fn written(day: u64, month: u64, year: u64) -> Option<u64> {
     Some(day * 1_000_000 + month * 10_000 + year)
 }
 
+/// Minutes from 00:00 of a time of day as 07:30, 7:30 or 0730.
+pub fn time_of_day(text: &str) -> Result<i64, String> {
+    let parts = match text.split_once(':') {
+        Some((hours, minutes)) if hours.len() <= 2 && minutes.len() == 2 => Some((hours, minutes)),
+        None if text.len() == 4 => text.split_at_checked(2),
+        _ => None,
+    };
+    parts
+        .and_then(|(hours, minutes)| Some((number_of_any_size(hours)?, number_of_any_size(minutes)?)))
+        .filter(|&(hours, minutes)| hours < 24 && minutes < 60)
+        .map(|(hours, minutes)| (hours * 60 + minutes) as i64)
+        .ok_or_else(|| format!("`{text}` is no time of day. Write it as 07:30, from 00:00 to 23:59."))
+}
+
 /// A date as `5 Dec 2015`; a number that is none as it is.
 pub fn date(number: u64) -> String {
     let (day, month, year) = (number / 1_000_000, number / 10_000 % 100, number % 10_000);
@@ -71,6 +85,11 @@ pub fn date(number: u64) -> String {
         Some(name) if (1..=31).contains(&day) => format!("{day} {} {year}", &name[..3]),
         _ => format!("{number:08}"),
     }
+}
+
+/// A date as `2015-12-05`.
+pub fn iso_date(number: u64) -> String {
+    format!("{:04}-{:02}-{:02}", number % 10_000, number / 10_000 % 100, number / 1_000_000)
 }
 
 /// How many days a date is after 1 January 1600, to say what lies before what.
@@ -96,7 +115,7 @@ pub fn count(number: u64) -> Option<i64> {
 
 /// The number DDMMYYYY of a day, counted from 1 January 1600; none before that
 /// day or after the year 9999.
-fn number_of(day: i64) -> Option<u64> {
+pub fn number_of(day: i64) -> Option<u64> {
     // Years as if March began them, so that a leap day is the last of its year.
     let from_march = day - 60;
     let (cycle, in_cycle) = (from_march.div_euclid(146_097), from_march.rem_euclid(146_097));
@@ -251,6 +270,20 @@ mod tests {
         assert_eq!(parse("99999999999999999999999"), Ok(u64::MAX));
         assert_eq!(date(5_122_015), "5 Dec 2015");
         assert_eq!(date(99_999_999), "99999999");
+    }
+
+    #[test]
+    fn times_of_a_day() {
+        for (form, minutes) in [("07:30", 450), ("7:30", 450), ("0730", 450), ("00:00", 0), ("23:59", 1439)] {
+            assert_eq!(time_of_day(form), Ok(minutes), "{form}");
+        }
+        for form in
+            ["24:00", "2400", "07:60", "7:5", "730", "007:30", ":30", "07:", "", "-1:00", "é30", "noon"]
+        {
+            let why = time_of_day(form).unwrap_err();
+            assert_eq!(why, format!("`{form}` is no time of day. Write it as 07:30, from 00:00 to 23:59."));
+        }
+        assert_eq!(iso_date(5_122_015), "2015-12-05");
     }
 
     #[test]

@@ -17,13 +17,14 @@ mod memory;
 mod names;
 mod progress;
 mod records;
+mod sheet;
 mod show;
 mod speech;
 mod store;
 mod tables;
 mod trouble;
 
-use std::io::{self, stdin, stdout, Write};
+use std::io::{self, stderr, stdin, stdout, Write};
 
 use clap::{CommandFactory, Parser};
 
@@ -37,17 +38,21 @@ use crate::trouble::Trouble;
 /// Runs the program and answers its exit status.
 pub fn run() -> u8 {
     let cli = Cli::parse();
+    if let Some(mistake) = cli.mistake() {
+        mistake.exit();
+    }
     let done = match &cli.command {
-        Command::Ask { store } => ask::ask(store, stdin().lock(), stdout().lock()).map(|()| Told {
-            status: DONE,
-            text: Vec::new(),
-            json: String::new(),
-        }),
+        Command::Ask { store } => {
+            ask::ask(store, stdin().lock(), stdout().lock()).map(|()| Told::new(DONE, "", String::new()))
+        }
         Command::Completions { shell } => {
             clap_complete::generate(*shell, &mut Cli::command(), "calyxcabin", &mut stdout());
             return DONE;
         }
-        command => Desk { progress: Progress::on_terminal(), colour: Colour::on_terminal() }.run(command),
+        command => {
+            let (progress, colour) = (Progress::on_terminal(), Colour::on_terminal());
+            Desk { progress, colour, json: cli.json }.run(command)
+        }
     };
     say(done, cli.json)
 }
@@ -55,9 +60,7 @@ pub fn run() -> u8 {
 fn say(done: Result<Told, Trouble>, in_json: bool) -> u8 {
     let told = match done {
         Ok(told) => told,
-        Err(trouble) if in_json => {
-            Told { status: TROUBLE, text: Vec::new(), json: json(&Error { error: trouble.to_string() }) }
-        }
+        Err(trouble) if in_json => Told::new(TROUBLE, "", json(&Error { error: trouble.to_string() })),
         Err(trouble) => {
             eprintln!("calyxcabin: {trouble}");
             return TROUBLE;
@@ -65,6 +68,7 @@ fn say(done: Result<Told, Trouble>, in_json: bool) -> u8 {
     };
     let written = match in_json && !told.json.is_empty() {
         true => writeln!(stdout(), "{}", told.json),
+        false if told.aside => stderr().write_all(&told.text),
         false => stdout().write_all(&told.text),
     };
     match written.and_then(|()| stdout().flush()) {

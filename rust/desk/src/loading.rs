@@ -35,3 +35,16 @@ pub fn load_texts(texts: [&[u8]; FILES], rooms: &Rooms) -> (Answer, Tables) {
     let answer = proved::load(texts, tables.lent_mut());
     (answer, tables)
 }
+
+/// The tables of the example's delivery, for tests.
+#[cfg(test)]
+pub fn example() -> Tables {
+    use crate::files::Delivery;
+    use crate::progress::Progress;
+    let folder = std::path::Path::new(env!("CARGO_MANIFEST_DIR")).join("../../examples/delivery");
+    let texts = Delivery::find(&folder).and_then(|found| found.read(&Progress::hidden()));
+    let texts = texts.expect("the example's delivery");
+    let (answer, tables) = load_texts(texts.slices(), &rooms_with(texts.slices(), Spare::Lines(0)));
+    assert!(answer.is_accepted(), "{answer:?}");
+    tables
+}

@@ -2,7 +2,7 @@
 //! (docs/TABLES.md). Rows may be looked at in any tables; what was found there is
 //! shown where the tables are found sound.
 
-use std::collections::HashSet;
+use std::collections::HashMap;
 use std::ops::{Deref, DerefMut};
 
 use memmap2::MmapMut;
@@ -83,6 +83,8 @@ pub struct Station {
     pub change_time: u64,
     pub country: u64,
     pub zone: u64,
+    /// Its line in the file.
+    pub line: u64,
 }
 
 /// A period of a time zone.
@@ -132,6 +134,11 @@ impl Tables {
         Validity { first: table.get(2).copied().unwrap_or(0), last: table.get(3).copied().unwrap_or(0) }
     }
 
+    /// The delivery's version.
+    pub fn version(&self) -> u64 {
+        self.0[DELIVERY].get(4).copied().unwrap_or(0)
+    }
+
     pub fn services(&self) -> impl Iterator<Item = Service<'_>> {
         const WIDTH: usize = WIDTHS[TIMETBLS];
         let mut rest = self.0[TIMETBLS].get(WIDTH..).unwrap_or_default();
@@ -158,12 +165,13 @@ impl Tables {
     }
 
     pub fn stations(&self) -> impl Iterator<Item = Station> + '_ {
-        self.rows(STATIONS).skip(1).map(|row| Station {
+        self.rows(STATIONS).zip(1..).skip(1).map(|(row, line)| Station {
             flag: row[1],
             code: row[2],
             change_time: row[3],
             country: row[4],
             zone: row[5],
+            line,
         })
     }
 
@@ -192,18 +200,49 @@ impl Tables {
         Some((0..days).map(|day| has(vector, day)).collect())
     }
 
-    /// The footnotes of FOOTNOTE or XFOOTNOTE that have 1 on a day, counted from the
-    /// first.
-    pub fn marked_on(&self, file: usize, day: usize) -> HashSet<u64> {
+    /// The vectors of FOOTNOTE or XFOOTNOTE by footnote.
+    pub fn vectors(&self, file: usize) -> HashMap<u64, &[u64]> {
         // A vector stands behind its `#`.
-        let pairs = self.rows(file).zip(self.rows(file).skip(1));
-        let marked = pairs.filter(|(row, vector)| row[0] == u64::from(b'#') && has(vector, day));
-        marked.map(|(row, _)| row[1]).collect()
+        self.groups(file).filter_map(|group| Some((group.key, group.rows().next()?.0))).collect()
+    }
+
+    /// The groups of a file of groups, in its order.
+    pub fn groups(&self, file: usize) -> impl Iterator<Item = Group<'_>> {
+        let width = WIDTHS[file];
+        let is_under = |row: &&[u64]| row[0] != 0 && row[0] != u64::from(b'#');
+        // A row stands for a line, and the first line is the file's own.
+        let mut rest = self.0[file].get(width..).unwrap_or_default();
+        let mut line = 2;
+        std::iter::from_fn(move || {
+            let opening = rest.get(..width).filter(|row| row[0] == u64::from(b'#'))?;
+            let under = rest[width..].chunks_exact(width).take_while(is_under).count();
+            let (group, behind) = rest.split_at(width * (1 + under));
+            let first = line + 1;
+            (rest, line) = (behind, first + under as u64);
+            Some(Group { key: opening[1], rows: &group[width..], width, first })
+        })
     }
 }
 
-/// Whether a vector's row has 1 on a day.
-fn has(vector: &[u64], day: usize) -> bool {
+/// A group of a file of groups: what its `#` names, and the rows under it.
+#[derive(Clone, Copy)]
+pub struct Group<'a> {
+    pub key: u64,
+    rows: &'a [u64],
+    width: usize,
+    /// The line of the first row.
+    first: u64,
+}
+
+impl<'a> Group<'a> {
+    /// The rows with their lines in the file.
+    pub fn rows(&self) -> impl Iterator<Item = (&'a [u64], u64)> {
+        self.rows.chunks_exact(self.width).zip(self.first..)
+    }
+}
+
+/// Whether a vector's row has 1 on a day, counted from the first.
+pub fn has(vector: &[u64], day: usize) -> bool {
     vector.get(1 + day / 64).is_some_and(|word| word >> (day % 64) & 1 == 1)
 }
 
@@ -232,6 +271,17 @@ impl<'a> Service<'a> {
     /// The rows with a letter.
     pub fn records(&self, letter: u8) -> impl Iterator<Item = &'a [u64]> {
         self.rows().filter(move |row| row[0] == u64::from(letter))
+    }
+
+    /// Whether a record of it names a station.
+    pub fn names(&self, station: u64) -> bool {
+        self.rows().any(|row| row[1] == station)
+    }
+
+    /// The record of a leg: `%`, `-` or `&`.
+    pub fn on_leg(&self, letter: u8, leg: u64) -> Option<&'a [u64]> {
+        let first = if letter == b'%' { 3 } else { 2 };
+        self.records(letter).find(|row| (row[first]..row[first + 1]).contains(&leg))
     }
 
     pub fn stops(&self) -> impl Iterator<Item = Stop> + 'a {

@@ -22,6 +22,11 @@ impl Trouble {
         Trouble { sentence: sentence.into(), gone: true }
     }
 
+    /// What was found in tables does not fit what was answered from them.
+    pub fn not_shown() -> Trouble {
+        Trouble::new("The store's tables do not show what was answered from them.")
+    }
+
     pub fn reading(path: &Path, error: &io::Error) -> Trouble {
         let why = match error.kind() {
             ErrorKind::NotFound => "it is not there. Is the name spelt right?".into(),

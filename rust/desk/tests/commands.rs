@@ -573,22 +573,158 @@ fn readers_see_amendments() {
         .unwrap();
     let (mut input, mut output) =
         (asking.stdin.take().unwrap(), BufReader::new(asking.stdout.take().unwrap()));
+    // The answers of lines that are written together.
     let mut ask = |question: &str| {
-        writeln!(input, "{question}").unwrap();
-        let mut answer = String::new();
-        output.read_line(&mut answer).unwrap();
-        answer
+        input.write_all(format!("{question}\n").as_bytes()).unwrap();
+        let mut answers = String::new();
+        for _ in question.lines() {
+            output.read_line(&mut answers).unwrap();
+        }
+        answers
     };
     assert!(ask("stop 1 1 14122015").contains("\"local\":1320"));
     let file = folder.join("block");
-    fs::write(&file, with(&block(&store, 1), ",2200", ",2130")).unwrap();
-    line("amend {} 1 {}", &[&store, &file]).is(0, "amendment 1");
+    let amend = |old: &str, new: &str| {
+        fs::write(&file, with(&block(&store, 1), old, new)).unwrap();
+        line("amend {} 1 {}", &[&store, &file])
+    };
+    amend(",2200", ",2130").is(0, "amendment 1");
     assert!(ask("stop 1 1 14122015").contains("\"local\":1290"));
     line("open {} {} --replace", &[&example(), &store]).is(0, "Accepted");
     assert!(ask("stop 1 1 14122015").contains("\"local\":1320"));
     assert!(ask("name HVH").contains("Hoek van Holland Haven"));
+    // So do changes that come together; the Sprinter arrives at 21:12.
+    let changes = ["change 5 3 14122015 1 1 14122015"; 50].join("\n");
+    for (old, new, gap) in [(",2200", ",2145", 33), (",2145", ",2130", 18)] {
+        amend(old, new).is(0, "Accepted");
+        let expected = format!("{{\"change\":\"yes\",\"gap\":{gap},\"source\":\"changes\",\"needed\":0}}\n");
+        assert_eq!(ask(&changes), expected.repeat(50));
+    }
+    line("open {} {} --replace", &[&example(), &store]).is(0, "Accepted");
+    assert!(ask(&changes).lines().all(|answer| answer.contains("\"gap\":48,")));
     drop(input);
     assert!(asking.wait().unwrap().success());
+}
+
+/// A thousand changes: where services meet, on days of rest and of changing clocks, and
+/// of services, stops and dates that there are not.
+fn a_thousand_changes() -> Vec<String> {
+    const MEETINGS: [(u64, u64, u64, u64); 10] = [
+        (1, 2, 3, 1),
+        (2, 2, 6, 1),
+        (5, 3, 1, 1),
+        (4, 3, 2, 1),
+        (3, 4, 4, 1),
+        (6, 3, 5, 1),
+        (3, 2, 3, 2),
+        (9, 2, 3, 1),
+        (1, 1, 3, 1),
+        (2, 2, 6, 3),
+    ];
+    const DATES: [&str; 10] = [
+        "13122015", "14122015", "15122015", "24122015", "25122015", "26032016", "27032016", "9122016",
+        "10122016", "31022016",
+    ];
+    let change = |(&(from, left, to, boarded), days): (&(u64, u64, u64, u64), usize)| {
+        format!("change {from} {left} {} {to} {boarded} {}", DATES[days / 10], DATES[days % 10])
+    };
+    MEETINGS.iter().flat_map(|meeting| (0..100).map(move |days| change((meeting, days)))).collect()
+}
+
+/// Changes that come together are answered by one call, and as one by one.
+#[test]
+fn a_thousand_changes_are_answered_as_one_by_one() {
+    let folder = folder("thousand");
+    let store = opened(&folder);
+    let changes = a_thousand_changes();
+    let said = ask(&store, &(changes.join("\n") + "\n"));
+    assert_eq!((said.status, said.err.as_str()), (Some(0), ""));
+    let lines: Vec<&str> = said.out.lines().collect();
+    assert_eq!(lines.len(), 1000);
+    let mut met = std::collections::BTreeMap::new();
+    for (place, (change, told)) in changes.iter().zip(answers(&said)).enumerate() {
+        let alone = line(&format!("{} --json", change.replace("change", "change {}")), &[&store]).json();
+        let expected = match alone.get("refused") {
+            Some(refused) => {
+                let place = ["number", "file", "ordinal", "line"].map(|key| (key, refused[key].clone()));
+                json!({"refused": place.into_iter().collect::<std::collections::BTreeMap<_, _>>()})
+            }
+            None => {
+                let mut told = alone.clone();
+                told.as_object_mut().unwrap().retain(|key, _| key != "from" && key != "to");
+                told
+            }
+        };
+        assert_eq!(told, expected, "{change}");
+        let kind = [&told["change"], &told["reason"], &told["source"], &told["refused"]["number"]];
+        *met.entry(json!(kind).to_string()).or_insert(0) += 1;
+        // Byte by byte as a line that comes alone.
+        if place % 10 == 0 {
+            assert_eq!(ask(&store, change).out, format!("{}\n", lines[place]), "{change}");
+        }
+    }
+    assert!(met.len() >= 12, "{met:#?}");
+}
+
+/// Changes among other lines: answers stand in the order of the lines, and an amendment
+/// counts from its line on.
+#[test]
+fn changes_among_other_lines() {
+    let folder = folder("among");
+    let store = opened(&folder);
+    let held = block(&store, 1);
+    let [earlier, wrong, back] = ["earlier", "wrong", "back"].map(|name| folder.join(name));
+    fs::write(&earlier, with(&held, ",2200", ",2130")).unwrap();
+    fs::write(&wrong, with(&held, "HAR", "XYZ")).unwrap();
+    fs::write(&back, &held).unwrap();
+    let amend = |file: &Path| format!("amend 1 {}", file.display());
+    // The Sprinter arrives at 21:12, the boat leaves at 22:00 or 21:30.
+    let boat = "change 5 3 14122015 1 1 14122015";
+    let leaves = |gap: u64| json!({"change": "yes", "gap": gap, "source": "changes", "needed": 0});
+    let refused = |number: u64| json!({"number": number, "file": "", "ordinal": 0, "line": 0});
+    let unsettled = json!({"change": "unsettled", "gap": 130, "source": "stations", "needed": 99});
+    let stop = json!({
+        "station": "HAR    ", "departure": null,
+        "arrival": {"local": 1830, "reference": 1830, "date": "15122015"},
+    });
+    let accepted = json!({"accepted": {"days": 364, "services": 6}});
+    let lines = [
+        (boat.to_string(), leaves(48)),
+        ("runs 1 1 25122015".into(), json!({"runs": false})),
+        ("change 1 2 14122015 3 1 15122015".into(), unsettled.clone()),
+        ("stop 1 2 14122015".into(), stop),
+        ("change 9 2 14122015 3 1 15122015".into(), json!({"refused": refused(12)})),
+        ("change 1 1 14122015 3 1 15122015".into(), json!({"refused": refused(13)})),
+        ("change 1 2 14122014 3 1 15122015".into(), json!({"refused": refused(14)})),
+        ("change 1 2 10122016 3 1 10122016".into(), json!({"refused": refused(15)})),
+        ("runs 1 1 14122015".into(), json!({"runs": true})),
+        (amend(&earlier), accepted.clone()),
+        (boat.into(), leaves(18)),
+        ("name HVH".into(), json!({"name": "Hoek van Holland Haven        "})),
+        (boat.into(), leaves(18)),
+        (amend(&wrong), json!({"refused": {"number": 9, "file": "TIMETBLS", "ordinal": 1, "line": 6}})),
+        (boat.into(), leaves(18)),
+        ("runs 9 1 14122015".into(), json!({"refused": refused(12)})),
+        (amend(&back), accepted),
+        (boat.into(), leaves(48)),
+        ("change 1 2 14122015 3 1 15122015".into(), unsettled),
+    ];
+    // Lines that are no questions stand between any two of them.
+    let input: String = lines.iter().map(|(line, _)| format!("{line}\nchange 1 2 3\n")).collect();
+    let said = ask(&store, &input);
+    assert_eq!((said.status, said.err.as_str()), (Some(0), ""));
+    let answers = answers(&said);
+    assert_eq!(answers.len(), 2 * lines.len());
+    for (place, (line, expected)) in lines.iter().enumerate() {
+        assert_eq!(answers[2 * place], *expected, "{line}");
+        let error = answers[2 * place + 1]["error"].as_str().unwrap();
+        assert!(error.starts_with("`change 1 2 3` is no question: write runs S L D"), "{error}");
+    }
+    // So do many of them that each test soundness by itself.
+    let many: String = (0..200).map(|_| format!("runs 1 1 25122015\n{boat}\nstop 9 1 1\n")).collect();
+    let told = self::answers(&ask(&store, &many));
+    let three = [json!({"runs": false}), leaves(48), json!({"refused": refused(12)})];
+    assert!(told.len() == 600 && told.chunks(3).all(|told| *told == three), "{told:?}");
 }
 
 #[test]
@@ -601,6 +737,7 @@ fn help_and_spelling() {
         "stop",
         "service",
         "station",
+        "sheet",
         "lines",
         "amend",
         "card",

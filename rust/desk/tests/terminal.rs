@@ -44,6 +44,14 @@ fn a_terminal_shows_progress_and_colour() {
     on_terminal(&["change", &night, "1", "2", "14122015", "5", "1", "15122015"])
         .unwrap()
         .is(3, "\x1b[1;31mNo\x1b[0m: ");
+    on_terminal(&["sheet", &night, "HVH", "15122015"])
+        .unwrap()
+        .is(0, "\x1b[1mHVH Hoek van Holland Haven, Tue 15 Dec 2015\x1b[0m")
+        .is(0, "  to RTD Rotterdam Centraal       \x1b[1;31mNo\x1b[0m       37      45  ")
+        .is(0, "  to HAR Harwich International    \x1b[1;32mYes\x1b[0m      48       0  ");
+    on_terminal(&["sheet", &night, "HAR", "15122015"])
+        .unwrap()
+        .is(0, "\x1b[1;33mUnsettled\x1b[0m  130      99  ");
     on_terminal(&["lines", &night, "1"]).unwrap().is(0, "#00000001\r\n");
     on_terminal(&["change", &night, "1", "2", "14122015", "3", "1", "15122015", "--json"])
         .unwrap()

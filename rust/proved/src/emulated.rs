@@ -8,9 +8,10 @@
 //!
 //! For any other call follow: six numbers, those beyond the call's own zero;
 //! what seven words and four minutes hold, of which the call writes its own;
-//! the lengths in bytes of twelve slices, those beyond the call's own zero;
-//! then the slices. Answered: the seven words and the four minutes; after an
-//! amendment TIMETBLS too.
+//! the lengths in bytes of thirteen slices, those beyond the call's own zero;
+//! then the slices. Answered: the seven words and the four minutes; then the
+//! slice that the call has written, if it writes one: TIMETBLS of an amendment,
+//! the answers of a sheet.
 
 use std::io::{self, BufWriter, Read, Write};
 use std::process::{Child, ChildStdin, ChildStdout, Command, Stdio};
@@ -20,8 +21,8 @@ use crate::{AmendedTables, Files, Keys, LentTables, Side, Tables, Words};
 
 const WORD: usize = size_of::<u64>();
 
-/// The most slices that a call is lent: eleven tables and a block.
-const SLICES: usize = 12;
+/// The most slices that a call is lent: eleven tables, questions and answers.
+const SLICES: usize = 13;
 
 /// Bytes are gathered so far before they are sent; larger files go by themselves.
 const GATHERED: usize = 1 << 20;
@@ -46,6 +47,7 @@ enum Call {
     LinesNow,
     Amend,
     Rank,
+    Sheet,
 }
 
 pub fn load(files: Files, tables: Tables, answer: &mut Words) {
@@ -76,6 +78,17 @@ pub fn stop_time(
 pub fn change(tables: LentTables, from: Side, to: Side, answer: &mut [u64; 7], gap: &mut [i32; 1]) {
     let numbers = [from.service, from.stop, from.date, to.service, to.stop, to.date];
     ask_tables(Call::Change, tables, &numbers, answer, gap)
+}
+
+pub fn sheet(tables: LentTables, questions: &[u64], answers: &mut [u64]) -> u64 {
+    let mut number = [u64::MAX];
+    let bytes: Vec<Vec<u8>> = tables.into_iter().chain([questions, &*answers]).map(bytes_of).collect();
+    let lent: Vec<&[u8]> = bytes.iter().map(Vec::as_slice).collect();
+    with_servant(|servant| {
+        servant.ask(Call::Sheet, &lent, &[], &mut number, &mut [])?;
+        servant.receive(answers)
+    });
+    number[0]
 }
 
 pub fn name(stations: &[u8], short: u64, answer: &mut [u64; 3]) {

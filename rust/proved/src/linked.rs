@@ -98,6 +98,16 @@ pub fn change(tables: LentTables, from: Side, to: Side, answer: &mut [u64; 7], g
     )
 }
 
+pub fn sheet(tables: LentTables, questions: &[u64], answers: &mut [u64]) -> u64 {
+    let [delivery, company, country, trnsmode, timezone, stations, footnote, timetbls, changes, xfootnote, xchanges] =
+        tables;
+    call!(calyxcabin_sheet(
+        read delivery company country trnsmode timezone stations footnote timetbls changes xfootnote xchanges
+            questions,
+        written answers;
+    ))
+}
+
 pub fn name(stations: &[u8], short: u64, answer: &mut [u64; 3]) {
     call!(calyxcabin_name(read stations, written; short, answer))
 }
@@ -306,6 +316,35 @@ extern "C" {
         answer: *mut [u64; 7],
         gap: *mut [i32; 1],
     );
+
+    fn calyxcabin_sheet(
+        delivery: *const u64,
+        delivery_len: usize,
+        company: *const u64,
+        company_len: usize,
+        country: *const u64,
+        country_len: usize,
+        trnsmode: *const u64,
+        trnsmode_len: usize,
+        timezone: *const u64,
+        timezone_len: usize,
+        stations: *const u64,
+        stations_len: usize,
+        footnote: *const u64,
+        footnote_len: usize,
+        timetbls: *const u64,
+        timetbls_len: usize,
+        changes: *const u64,
+        changes_len: usize,
+        xfootnote: *const u64,
+        xfootnote_len: usize,
+        xchanges: *const u64,
+        xchanges_len: usize,
+        questions: *const u64,
+        questions_len: usize,
+        answers: *mut u64,
+        answers_len: usize,
+    ) -> u64;
 
     fn calyxcabin_name(stations: *const u8, stations_len: usize, short: u64, answer: *mut [u64; 3]);
 

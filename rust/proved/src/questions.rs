@@ -104,6 +104,15 @@ pub struct Keys {
     pub to_mode: u64,
 }
 
+/// The words of a question on a sheet: service, stop and date of the side that one
+/// changes from, then those of the other.
+pub const QUESTION_WORDS: usize = 6;
+
+/// The words of an answer on a sheet: the seven of a single change (the refusal's
+/// number; verdict; why not; whether the gap was reached; source; whether the needed
+/// time was reached; that time), then the gap's two's complement.
+pub const ANSWER_WORDS: usize = 8;
+
 /// How many patterns stand on the desk's card.
 pub const PATTERNS: u64 = 16;
 
@@ -157,16 +166,59 @@ fn stop_times(words: [u64; 4], minutes: [i32; 4]) -> Option<Result<StopTimes, Re
 /// Whether one can change from one service to another. 16, then 12, 13, 14 for
 /// each side, and 15, by the day that either time falls on.
 pub fn change(tables: [&[u64]; FILES], from: Side, to: Side) -> Result<Change, Refusal> {
-    let (mut words, mut gap) = ([UNANSWERED; 7], [i32::MIN; 1]);
-    archive::change(tables, from, to, &mut words, &mut gap);
-    by_contract(change_of(words, gap), (words, gap))
+    change_of(change_words(tables, from, to))
 }
 
-fn change_of(words: [u64; 7], [gap]: [i32; 1]) -> Option<Result<Change, Refusal>> {
+/// The same in words, as a sheet has them.
+pub fn change_words(tables: [&[u64]; FILES], from: Side, to: Side) -> [u64; ANSWER_WORDS] {
+    let (mut words, mut gap) = ([UNANSWERED; 7], [i32::MIN; 1]);
+    archive::change(tables, from, to, &mut words, &mut gap);
     let [number, verdict, reason, with_gap, source, with_needed, needed] = words;
+    // The sign goes along.
+    [number, verdict, reason, with_gap, source, with_needed, needed, i64::from(gap[0]) as u64]
+}
+
+/// Answers every change by one call, which tests the tables once; 16 where they are
+/// not sound. A change that is refused does not stop the others.
+pub fn sheet(
+    tables: [&[u64]; FILES],
+    changes: &[(Side, Side)],
+) -> Result<Vec<Result<Change, Refusal>>, Refusal> {
+    let questions: Vec<u64> = changes.iter().flat_map(question_words).collect();
+    let mut answers = vec![UNANSWERED; changes.len() * ANSWER_WORDS];
+    let number = sheet_words(tables, &questions, &mut answers);
+    let answered = match number {
+        0 => Some(Ok(answers.as_chunks().0.iter().copied().map(change_of).collect())),
+        16 => Some(Err(Refusal(number))),
+        // There is room for every answer.
+        _ => None,
+    };
+    by_contract(answered, number)
+}
+
+fn question_words((from, to): &(Side, Side)) -> [u64; QUESTION_WORDS] {
+    [from.service, from.stop, from.date, to.service, to.stop, to.date]
+}
+
+/// The same in words as they stand: a list has as many entries as its length divided
+/// by an entry's words, rounded down. Answers 0, 16, or 23 where there is room for
+/// fewer answers than questions; both leave every word of the answers as it was, and
+/// words behind the answers stay in any case.
+pub fn sheet_words(tables: [&[u64]; FILES], questions: &[u64], answers: &mut [u64]) -> u64 {
+    let number = archive::sheet(tables, questions, answers);
+    by_contract(matches!(number, 0 | 16 | 23).then_some(number), number)
+}
+
+fn change_of(words: [u64; ANSWER_WORDS]) -> Result<Change, Refusal> {
+    by_contract(change_in(words), words)
+}
+
+fn change_in(words: [u64; ANSWER_WORDS]) -> Option<Result<Change, Refusal>> {
+    let [number, verdict, reason, with_gap, source, with_needed, needed, gap] = words;
     if number != 0 {
-        return (words[1..] == [0; 6] && gap == 0).then_some(Err(Refusal(number)));
+        return (words[1..] == [0; 7]).then_some(Err(Refusal(number)));
     }
+    let gap = i32::try_from(gap as i64).ok()?;
     Some(Ok(Change {
         verdict: verdict_of(verdict, reason)?,
         gap: reached(with_gap, gap)?,

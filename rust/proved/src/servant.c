@@ -6,10 +6,10 @@ typedef unsigned long u64;
 typedef int i32;
 
 enum { FILES = 11, TIMETBLS = 7, ANSWER = 6, NUMBERS = 6, WORDS = 7, MINUTES = 4 };
-// Those of a call that is no load: eleven tables and a block.
-enum { BLOCK = 11, SLICES = 12 };
+// Those of a call that is no load: eleven tables, then a block, or questions and answers.
+enum { BLOCK = 11, QUESTIONS = 11, ANSWERS = 12, SLICES = 13 };
 // The calls by number, as `emulated.rs` has them.
-enum { LOAD, IS_SOUND, RUNNING_DAY, STOP_TIME, CHANGE, NAME, LINES_NOW, AMEND, RANK };
+enum { LOAD, IS_SOUND, RUNNING_DAY, STOP_TIME, CHANGE, NAME, LINES_NOW, AMEND, RANK, SHEET };
 enum { READ = 0, WRITE = 1, MMAP = 9, MUNMAP = 11, EXIT = 60, PRCTL = 157 };
 enum { SIGNAL_WHEN_THE_PARENT_DIES = 1, KILL = 9 };
 enum { READ_AND_WRITE = 3, PRIVATE_AND_OF_NO_FILE = 0x22 };
@@ -39,6 +39,11 @@ void calyxcabin_change(
     const u64 *, u64, const u64 *, u64, const u64 *, u64, const u64 *, u64, const u64 *, u64, const u64 *, u64,
     const u64 *, u64, const u64 *, u64, const u64 *, u64, const u64 *, u64, const u64 *, u64,
     u64, u64, u64, u64, u64, u64, u64 *, i32 *);
+
+u64 calyxcabin_sheet(
+    const u64 *, u64, const u64 *, u64, const u64 *, u64, const u64 *, u64, const u64 *, u64, const u64 *, u64,
+    const u64 *, u64, const u64 *, u64, const u64 *, u64, const u64 *, u64, const u64 *, u64,
+    const u64 *, u64, u64 *, u64);
 
 void calyxcabin_name(const u8 *, u64, u64, u64 *);
 
@@ -198,7 +203,7 @@ static void ask_one(u64 call)
         all += bytes[k];
     u8 *slices = room_for(&lent, all + 1);
     for (u64 k = 0, next = 0; k < SLICES; next += bytes[k], k++) {
-        // No table comes after a text: so tables are aligned.
+        // No table or list comes after a text: so both are aligned.
         f[k] = slices + next;
         t[k] = (u64 *)(slices + next);
         n[k] = bytes[k] / sizeof(u64);
@@ -218,6 +223,9 @@ static void ask_one(u64 call)
         break;
     case CHANGE:
         calyxcabin_change(TABLES, q[0], q[1], q[2], q[3], q[4], q[5], w, m);
+        break;
+    case SHEET:
+        w[0] = calyxcabin_sheet(TABLES, t[QUESTIONS], n[QUESTIONS], t[ANSWERS], n[ANSWERS]);
         break;
     case NAME:
         calyxcabin_name(f[0], bytes[0], q[0], w);
@@ -240,6 +248,8 @@ static void ask_one(u64 call)
     give(minutes, sizeof minutes);
     if (call == AMEND)
         give(t[TIMETBLS], bytes[TIMETBLS]);
+    if (call == SHEET)
+        give(t[ANSWERS], bytes[ANSWERS]);
 }
 
 _Noreturn void serve(void)

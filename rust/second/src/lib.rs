@@ -1,11 +1,11 @@
-//! A second reading of document 01, with requests W2 and W3 of document 02: IFF
-//! 4.2.4 deliveries at the connections desk.
+//! A second reading of document 01, with requests W2, W3 and W12 of document 02:
+//! IFF 4.2.4 deliveries at the connections desk.
 //!
 //! A delivery of eleven files is loaded into a [`Store`] or refused with a
 //! number and a place. A store takes amendments of single services and answers
-//! the desk's questions. [`encode()`] shows a store as the eleven tables of
-//! 64-bit words that the desk's main program keeps, so that the two programs
-//! can be compared word by word.
+//! the desk's questions, changes also a sheet at a time. [`encode()`] shows a
+//! store as the eleven tables of 64-bit words that the desk's main program keeps,
+//! so that the two programs can be compared word by word.
 
 pub mod amend;
 pub mod card;
@@ -20,6 +20,7 @@ pub mod load;
 pub mod questions;
 pub mod refusals;
 mod rows;
+pub mod sheet;
 pub mod sound;
 pub mod store;
 mod timetbls;
@@ -33,6 +34,7 @@ pub use lines::count as count_lines;
 pub use load::load;
 pub use questions::{change, lines_now, name, running_day, stop_time};
 pub use refusals::{Fault, Refusal};
+pub use sheet::sheet;
 pub use sound::open;
 pub use store::{Answer, Store};
 pub use values::{Clock, Day, LocalMinutes, ReferenceMinutes};

@@ -23,6 +23,7 @@ pub enum Fault {
     NoZonePeriod = 15,
     NotSound = 16,
     NoSuchStation = 17,
+    ListTooShort = 23,
 }
 
 /// A refusal as the desk sees it. `file` is 1 to 11, or 0 where there is none;

@@ -10,7 +10,7 @@ use Rattle.changing.proofs.judged.Statement.{statement}
 use Rattle.changing.proofs.judged.Tie as tie
 
 abbrev start-of : tie.After-number-on → tie.Start
-start-of c = c .before .before .before .before .before .before .before .before .before
+start-of c = c .before .before .before .before .before .before .before .before .before .before
 
 abbrev first-of : tie.After-number-on2 → tie.After-arrival-on
 first-of c = c .before .before .before .before
@@ -82,6 +82,8 @@ weighed-requires c κs =
       q .1 .xchanges,
       q .2 .inside,
       q .3 .inside,
+      q .1 .changesHeads,
+      q .1 .xchangesHeads,
     )
 
 returns-3 : tie.Need-returns-3

@@ -10,7 +10,7 @@ use Rattle.changing.proofs.weighed.Tie as tie
 returns : tie.Need-returns
 returns c R e f g h =
     let p = c .before in
-    let a = p .before .before .before .before .before .before .before .args in
+    let a = p .before .before .before .before .before .before .before .before .args in
     c .by-needed .ensures R e f g h
     ∙ ap (λ (z : ℤ). verdictOn R z (rowsFound (a .timetbls .now) (a .a)) (rowsFound (a .timetbls .now) (a .b)) (a .a .station) (a .from) (a .to))
     (toZ-ofZ {z = p .gap-of .result} (search needs) ∙ p .gap-of .ensures)

@@ -1,33 +1,23 @@
--- `desk::change_there` meets its contract: the rows are counted, and what a change leans on is handed over. Assumes nothing.
+-- `desk::change_there` meets its contract: the rows are counted, and what a change leans on is handed over. No slots are an index of anything.
+-- Assumes nothing.
+use native.Mathlib.Omega.{arith}
 use borrow.Author.Needs.{needs}
+use Rattle.iff.specs.declared.GroupFile.the-variants.{Changes, Xchanges}
+use Rattle.iff.specs.declared.File.the-variants.{Groups}
+use Rattle.slots.proofs.SlotLaws.{few-slots}
+use Rattle.desk.proofs.ReadyLaws.{ready}
 use Rattle.desk.proofs.change_there.Statement.{statement}
 use Rattle.desk.proofs.change_there.Tie as tie
 
-ready : tie.Need-change-in-requires
-ready c κs =
-    let n = c .count-rows .ensures in
-    let l = c .before .before .before .before .before .before .before .before .before .before .pre in
-    record {
-      zones =
-          record {
-            delivery = record { counted = n .delivery; once = l .delivery };
-            timezone = record { counted = n .timezone; once = l .timezone };
-            stations = record { counted = n .stations; once = l .stations };
-            few = l .hours;
-          };
-      footnote = record { counted = n .footnote; once = l .footnote };
-      timetbls = record { counted = n .timetbls; once = l .timetbls };
-      needs =
-          record {
-            changes = record { counted = n .changes; once = l .changes };
-            xfootnote = record { counted = n .xfootnote; once = l .xfootnote };
-            xchanges = record { counted = n .xchanges; once = l .xchanges };
-          };
-      days = l .days;
-    }
+requires : tie.Need-change-in-requires
+requires c κs =
+    let k = c .before in
+    let l = k .before .before .before .before .before .before .before .before .before .before .pre in
+    ready _ _ _ _ _ _ _ _ _ _ l (k .count-rows .ensures) (few-slots (Groups Changes) _ _ _ (omega arith)) (few-slots (Groups Xchanges) _ _ _ (omega arith))
 
 returns : tie.Need-returns
 returns c R rows = c .change-in .ensures R rows
 
 pub change-there-spec : {M : Type 1} → statement M
-change-there-spec = tie.close (tie.spec (λ c κs. search needs) ready returns)
+change-there-spec =
+    tie.close (tie.spec (λ c κs. search needs) (λ c. search needs) (λ c. search needs) (λ c. search needs) requires returns)

@@ -12,7 +12,7 @@ returns c R f e =
     let n = c .before in
     let r = n .before in
     let l = r .before in
-    let a = l .before .before .before .before .before .args in
+    let a = l .before .before .before .before .before .before .args in
     let found : c .best-at .result ≡ bestAt R (a .a .station) (r .riding-on .result) (n .riding-on2 .result) (a .from .day) = c .best-at .ensures R e f in
     found
     ∙ same-best R (a .a .station) (a .from .day) (r .riding-on .result) _ (n .riding-on2 .result) _

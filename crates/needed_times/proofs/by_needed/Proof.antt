@@ -11,7 +11,7 @@ use Rattle.needed_times.proofs.by_needed.Statement.{statement}
 use Rattle.needed_times.proofs.by_needed.Tie as tie
 
 abbrev start-of : tie.After-pair-at → tie.Start
-start-of c = c .before .before .before .before .before .before .before
+start-of c = c .before .before .before .before .before .before .before .before
 
 returns : tie.Need-returns
 returns c R e f g h =

@@ -16,7 +16,7 @@ use Rattle.needed_times.proofs.without_pair.Statement.{statement}
 use Rattle.needed_times.proofs.without_pair.Tie as tie
 
 abbrev start-of : tie.After-find-station → tie.Start
-start-of c = c .before .before .before .before .before .before
+start-of c = c .before .before .before .before .before .before .before
 
 -- the station's row stands, whatever the rows of the other files are
 stands : (c : tie.After-find-station) → Stands (rowWidth (Rows Stations)) (start-of c .args .stations .now) (c .find-station .result)

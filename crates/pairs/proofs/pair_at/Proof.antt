@@ -8,8 +8,8 @@ returns : tie.Need-returns
 returns c R e =
     let g = c .before .before in
     let a = g .before .before .before .args in
-    pair-of-group R (a .changes .now) (a .used) (a .station) (g .find-group .result) (a .a) (a .b) e (g .find-group .ensures) (c .pair-in .result)
-    (c .pair-in .ensures)
+    pair-of-group R (a .changes .now) (a .used) (a .station) (g .find-group-surely .result) (a .a) (a .b) e (g .find-group-surely .ensures)
+    (c .pair-in .result) (c .pair-in .ensures)
 
 pub pair-at-spec : {M : Type 1} → statement M
 pair-at-spec = tie.close (tie.spec (λ c κs. search needs) (λ c. search needs) (λ c κs. search needs) returns)

@@ -5,17 +5,18 @@ use mathlib.Core.List.{List}
 use native.Mathlib.Omega.{arith}
 use borrow.Author.Needs.{needs}
 use borrow.Author.Tests.{not-true, not-false}
+use lib.ListN.{length}
 use Rattle.iff.specs.Lists.{has}
 use Rattle.iff.specs.Files.{PerFile, eleven}
 use Rattle.iff.specs.Words.{ownCompany}
 use Rattle.iff.specs.declared.RowFile.the-variants.{Company}
 use Rattle.iff.specs.declared.File.the-variants.{Rows}
 use Rattle.iff_rules.specs.Rows.{contextOf}
-use Rattle.iff_desk.specs.Sound.{rowsOfTables}
+use Rattle.iff_desk.specs.Sound.{sound, rowsOfTables}
 use Rattle.keys.proofs.Among.{keys-counted}
 use Rattle.sound_behind.specs.Behind.{isRight}
 use Rattle.sound.specs.Whole.{timetblsSound}
-use Rattle.sound.proofs.WholeLaws.{form-is, block-keys, timetbls-held, not-framed, not-timetbls, not-behind, by-company}
+use Rattle.sound.proofs.WholeLaws.{form-is, block-keys, timetbls-held, not-framed, not-timetbls, not-behind, by-company, unsound, hinted, indexed}
 use Rattle.sound.proofs.are_all_sound.Statement.{statement}
 use Rattle.sound.proofs.are_all_sound.Tie as tie
 
@@ -74,8 +75,9 @@ returns c =
     let r = c .before .before .before in
     let f = to-form r in
     let s = start f in
-    not-framed (tables s) (s .args .first .now) (s .pre .1) _ (f .form-of .ensures) (s .pre .3)
-    (sym (r .are-framed .ensures) ∙ not-true _ (c .if1 .taken))
+    unsound (tables s) _
+    (not-framed (tables s) (s .args .first .now) (s .pre .1) _ (f .form-of .ensures) (s .pre .3)
+    (sym (r .are-framed .ensures) ∙ not-true _ (c .if1 .taken)))
 
 judge-blocks-requires : tie.Need-judge-blocks-requires
 judge-blocks-requires c κs =
@@ -87,14 +89,15 @@ returns-2 c =
     let b = c .before .before .before .before in
     let f = to-form (to-framed b) in
     let s = start f in
-    not-timetbls (tables s) (s .args .first .now) (s .pre .1) _ (f .form-of .ensures) (s .pre .3)
-    (sym (timetbls-is b) ∙ ap isRight (c .enum-told .given .1))
+    unsound (tables s) _
+    (not-timetbls (tables s) (s .args .first .now) (s .pre .1) _ (f .form-of .ensures) (s .pre .3)
+    (sym (timetbls-is b) ∙ ap isRight (c .enum-told .given .1)))
 
 are-right-behind-requires : tie.Need-are-right-behind-requires
 are-right-behind-requires c κs =
     let r = to-rows (c .before .before .before) in
     let b = told-by r in
-    (from-blocks b .pre .0, b .judge-blocks .ensures .rows _ (r .services .given .1))
+    (from-blocks b .pre .0, b .judge-blocks .ensures .rows _ _ (r .services .given .1))
 
 returns-3 : tie.Need-returns-3
 returns-3 c =
@@ -102,14 +105,19 @@ returns-3 c =
     let f = to-form (to-framed (to-blocks h)) in
     let s = start f in
     let a = s .args in
-    not-behind (tables s) (a .first .now) (s .pre .1) _ (f .form-of .ensures) (s .pre .3)
+    unsound (tables s) _
+    (not-behind (tables s) (a .first .now) (s .pre .1) _ (f .form-of .ensures) (s .pre .3)
     (sym (h .are-right-behind .ensures (form-is (tables s) (a .first .now) (s .pre .1) _ (f .form-of .ensures) (s .pre .3)))
-    ∙ not-true _ (c .if2 .taken))
+    ∙ not-true _ (c .if2 .taken)))
 
-returns-4 : tie.Need-returns-4
-returns-4 c =
+-- DELIVERY's company decides, after all else
+abbrev to-behind : tie.After-names-at → tie.After-are-right-behind
+to-behind c = c .before .before .before .before
+
+company-is : (c : tie.After-names-at) → c .names-at .result ≡ sound (tables (from-blocks (to-blocks (to-behind c))))
+company-is c =
     let i = c .before .before .before in
-    let h = i .before in
+    let h = to-behind c in
     let b = to-blocks h in
     let r = to-framed b in
     let f = to-form r in
@@ -122,6 +130,35 @@ returns-4 c =
     (sym (timetbls-is b) ∙ ap isRight (to-rows (to-places h) .services .given .1))
     (sym (h .are-right-behind .ensures (form-is (tables s) (a .first .now) (s .pre .1) _ (f .form-of .ensures) (s .pre .3)))
     ∙ not-false _ (i .if2 .left))
+
+returns-4 : tie.Need-returns-4
+returns-4 c =
+    let n = c .before in
+    unsound (tables (from-blocks (to-blocks (to-behind n)))) _ (sym (not-true _ (c .if3 .taken)) ∙ company-is n)
+
+returns-5 : tie.Need-returns-5
+returns-5 c =
+    let n = c .before .before in
+    hinted (tables (from-blocks (to-blocks (to-behind n)))) _ (sym (not-false _ (c .before .if3 .left)) ∙ company-is n)
+
+returns-6 : tie.Need-returns-6
+returns-6 c =
+    let n = c .before .before in
+    let p = to-places (to-behind n) in
+    let r = to-rows p in
+    let b = told-by r in
+    indexed (tables (from-blocks b)) _ (sym (not-false _ (c .before .if3 .left)) ∙ company-is n) _ _ (p .index-in-rows .ensures .1 (c .if4 .left))
+    (b .judge-blocks .ensures .index _ _ (r .services .given .1))
+
+-- no slot is added
+slots-kept : (c : tie.After-names-at)
+    → length (to-places (to-behind c) .index-in-rows .last .1 .1 .1 .1 .0) ≡ length (from-blocks (to-blocks (to-behind c)) .args .places .now)
+slots-kept c =
+    let p = to-places (to-behind c) in
+    let b = told-by (to-rows p) in
+    p .index-in-rows .kept .1 .1 .1 .1 .0
+    ∙ b .judge-blocks .kept .1 .1 .1 .1 .1 .1 .1 .1 .0
+    ∙ to-framed b .are-framed .kept .1 .1 .1 .1 .1 .1 .1 .1 .1 .1 .1 .1 .1 .1 .0
 
 read-own : tie.Need-shared-slice-read-names-at
 read-own c = omega (arith, from-blocks (to-blocks (c .before .before .before)) .pre .2)
@@ -146,4 +183,8 @@ are-all-sound-spec =
     read-own
     (λ c κs. search needs)
     (λ c. search needs)
-    returns-4)
+    returns-4
+    (λ c. slots-kept (c .before .before))
+    returns-5
+    (λ c. slots-kept (c .before .before))
+    returns-6)

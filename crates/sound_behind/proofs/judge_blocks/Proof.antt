@@ -48,7 +48,7 @@ returns c =
     let s = from-word (c .before) in
     let a = s .args in
     let n = length (rowsIn Timetbls (a .t .now)) in
-    wrong _ _ _ _ _ (a .form) (a .delivery .now) (a .t .now)
+    wrong _ _ _ _ _ (a .form) (a .delivery .now) (a .t .now) _
     (λ x agree.
     rows-refused (a .t .now) n refl (s .pre .0) (a .form) (a .delivery .now) x
     (not-first Timetbls (a .t .now) n refl (a .form) (a .delivery .now) (s .pre .0)
@@ -64,7 +64,7 @@ returns-2 c =
     let b = c .before .before .before .before in
     let s = from-blocks b in
     let a = s .args in
-    wrong _ _ _ _ _ (a .form) (a .delivery .now) (a .t .now)
+    wrong _ _ _ _ _ (a .form) (a .delivery .now) (a .t .now) _
     (λ x agree.
     blocks-refused (a .t .now) (length (rowsIn Timetbls (a .t .now))) refl (s .pre .0) (a .form) (a .delivery .now) x (first-tag (to-first b))
     (sym (ap areSound (c .enum-told .given .1)) ∙ b .are-blocks-sound .ensures .0 .says x agree))
@@ -74,7 +74,7 @@ mul-zero-from c =
     let b = c .before .before .before .before .before in
     let s = from-blocks b in
     let a = s .args in
-    let n = b .are-blocks-sound .ensures .0 .rows _ _ (c .before .used .given .1) in
+    let n = b .are-blocks-sound .ensures .0 .rows _ _ _ (c .before .used .given .1) in
     omega (arith, inside Timetbls (a .t .now) _ n, s .good)
 
 returns-3 : tie.Need-returns-3
@@ -83,8 +83,8 @@ returns-3 c =
     let b = to-blocks z in
     let s = from-zero z in
     let a = s .args in
-    let n = b .are-blocks-sound .ensures .0 .rows _ _ (z .before .before .used .given .1) in
-    wrong _ _ _ _ _ (a .form) (a .delivery .now) (a .t .now)
+    let n = b .are-blocks-sound .ensures .0 .rows _ _ _ (z .before .before .used .given .1) in
+    wrong _ _ _ _ _ (a .form) (a .delivery .now) (a .t .now) _
     (λ x agree.
     frame-refused (a .t .now) _ n (some-rows-told _ _ n (s .pre .0)) (a .form) (a .delivery .now) x
     (not-zero Timetbls (a .t .now) _ n (a .form) (a .delivery .now) (sym (z .zero-from .ensures) ∙ not-true _ (c .if2 .taken))))
@@ -93,7 +93,7 @@ are-rows-framed-by-requires : tie.Need-are-rows-framed-by-requires
 are-rows-framed-by-requires c κs =
     let z = c .before in
     let s = from-zero z in
-    let n = to-blocks z .are-blocks-sound .ensures .0 .rows _ _ (z .before .before .used .given .1) in
+    let n = to-blocks z .are-blocks-sound .ensures .0 .rows _ _ _ (z .before .before .used .given .1) in
     (some-rows-told _ _ n (s .pre .0), n, s .pre .1)
 
 -- the rest of the frame, where the blocks are sound and unused places are zero
@@ -113,26 +113,29 @@ frame-is c x agree =
     let a = s .args in
     let q = first-tag (to-first b) in
     let is = z .before .before .used .given .1 in
-    let n = b .are-blocks-sound .ensures .0 .rows _ _ is in
+    let n = b .are-blocks-sound .ensures .0 .rows _ _ _ is in
     let some = some-rows-told _ _ n (s .pre .0) in
-    let told = by-number _ _ _ _ _ (a .t .now) _ _ n _ (b .are-blocks-sound .ensures .0) in
+    let told = by-number _ _ _ _ _ (a .t .now) _ _ n _ _ (b .are-blocks-sound .ensures .0) in
     let y = sym (ap areSound is) ∙ told .says x agree in
     c .are-rows-framed-by .ensures
     (services-distinct (a .t .now) _ n some (a .form) (a .delivery .now) x q y)
-    (told .rise _ _ is ∙ ap rising (services-are (a .t .now) _ n some (a .form) (a .delivery .now) x q))
+    (told .rise _ _ _ is ∙ ap rising (services-are (a .t .now) _ n some (a .form) (a .delivery .now) x q))
     ∙ by-frame (a .t .now) _ n some (a .form) (a .delivery .now) x q y (sym (z .zero-from .ensures) ∙ not-false _ (i .if2 .left))
 
 returns-4 : tie.Need-returns-4
 returns-4 c =
     let a = from-zero (c .before .before .before) .args in
-    wrong _ _ _ _ _ (a .form) (a .delivery .now) (a .t .now) (λ x agree. sym (not-true _ (c .if3 .taken)) ∙ frame-is (c .before) x agree)
+    wrong _ _ _ _ _ (a .form) (a .delivery .now) (a .t .now) _ (λ x agree. sym (not-true _ (c .if3 .taken)) ∙ frame-is (c .before) x agree)
 
 returns-5 : tie.Need-returns-5
 returns-5 c =
     let z = c .before .before .before in
+    let b = to-blocks z in
     let a = from-zero z .args in
-    right _ _ _ _ _ (a .form) (a .delivery .now) (a .t .now) _
-    (to-blocks z .are-blocks-sound .ensures .0 .rows _ _ (z .before .before .used .given .1))
+    let is = z .before .before .used .given .1 in
+    right _ _ _ _ _ (a .form) (a .delivery .now) (a .t .now) _ _ _
+    (b .are-blocks-sound .ensures .0 .rows _ _ _ is)
+    (b .are-blocks-sound .ensures .0 .index _ _ _ is)
     (λ x agree. sym (not-false _ (c .if3 .left)) ∙ frame-is (c .before) x agree)
 
 pub judge-blocks-spec : {M : Type 1} → statement M

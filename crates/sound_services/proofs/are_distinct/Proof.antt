@@ -9,7 +9,7 @@ use Rattle.sound_services.proofs.are_distinct.Statement.{statement}
 use Rattle.sound_services.proofs.are_distinct.Tie as tie
 
 returns : tie.Need-returns
-returns c = (sym (c .before .before .before .pre .new (omega (arith, c .if1 .taken))), refl)
+returns c = (sym (c .before .before .before .pre .new (omega (arith, c .if1 .taken))), refl, (λ f. refl))
 
 first-repeat-requires : tie.Need-first-repeat-requires
 first-repeat-requires c κs = c .before .before .before .pre .inside
@@ -20,18 +20,20 @@ index-keys-requires c κs =
     (s .pre .inside, s .pre .first)
 
 returns-2 : tie.Need-returns-2
-returns-2 c = (sym (c .before .before .first-repeat .ensures .never (c .enum-told .given .1)), refl)
+returns-2 c = (sym (c .before .before .first-repeat .ensures .never (c .enum-told .given .1)), refl, (λ f. refl))
 
 returns-3 : tie.Need-returns-3
 returns-3 c =
     let r = c .before .before in
     let a = r .before .before .before .before .args in
-    (sym (again-not-distinct (keysAmong Timetbls (a .used) (a .t .now)) _ (r .first-repeat .ensures .first _ (c .enum-told2 .given .1))), refl)
+    let again = r .first-repeat .ensures .first _ (c .enum-told2 .given .1) in
+    (sym (again-not-distinct (keysAmong Timetbls (a .used) (a .t .now)) _ again), refl, (λ f. refl))
 
 returns-4 : tie.Need-returns-4
 returns-4 c =
     let k = c .before .before in
-    (k .index-keys .ensures .0 .distinct, k .index-keys .ensures .1)
+    let i = k .before .before .before .before .before in
+    (k .index-keys .ensures .0 .distinct, k .index-keys .ensures .1, (λ f. absurd (omega (arith, i .if1 .left))))
 
 pub are-distinct-spec : {M : Type 1} → statement M
 are-distinct-spec =

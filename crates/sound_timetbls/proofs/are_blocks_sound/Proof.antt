@@ -87,8 +87,8 @@ returns c =
     let z = e .before .before in
     let l = z .before .before .before in
     let a = entry l .args in (
-      going-last _ _ _ _ _ (a .t .now) _ (a .places .now) (l .loop .done) (l .loop .run) (l .loop .i) (l .loop .places) (l .loop .inv) (ends-here z) _
-          (e .tell-services .ensures .0),
+      going-last _ _ _ _ _ (a .t .now) _ (a .places .now) (l .loop .done) (l .loop .run) (l .loop .i) (l .loop .places) (l .loop .inv)
+          (ends-here z) _ _ (e .tell-services .ensures .0),
       e .tell-services .ensures .1 ∙ l .loop .inv .wide,
     )
 
@@ -178,8 +178,8 @@ returns-5 c =
     let x = e .before .before in
     let l = x .before in
     let a = entry l .args in (
-      going-last _ _ _ _ _ (a .t .now) _ (a .places .now) (l .loop .done) (l .loop .run) (l .loop .i) (l .loop .places) (l .loop .inv) (ends-with-room x) _
-          (e .tell-services2 .ensures .0),
+      going-last _ _ _ _ _ (a .t .now) _ (a .places .now) (l .loop .done) (l .loop .run) (l .loop .i) (l .loop .places) (l .loop .inv)
+          (ends-with-room x) _ _ (e .tell-services2 .ensures .0),
       e .tell-services2 .ensures .1 ∙ l .loop .inv .wide,
     )
 

@@ -1,5 +1,6 @@
 //! The desk's questions answered another way: by reading the texts of an
 //! accepted delivery line by line, with no tables between.
+#![allow(dead_code)] // Each test program uses a part of this.
 
 use deliveries::amendments::is_one_block;
 use deliveries::place::*;

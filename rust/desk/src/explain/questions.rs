@@ -16,6 +16,7 @@ pub enum Asked<'a> {
     Change { from: Side, to: Side },
     Service(u64),
     Station(&'a str),
+    Sheet { station: &'a str, date: u64 },
 }
 
 fn told(number: u64, found: String, expected: String, advice: String) -> Explanation {
@@ -37,13 +38,15 @@ pub fn question(tables: &Tables, number: u64, asked: Asked) -> Explanation {
         }
         (13, Asked::Leg { service, leg, .. }) => no_leg(tables, service, leg),
         (13, Asked::Stop { service, stop, .. }) => no_stop(tables, service, stop, 1, 0, ""),
-        (14, Asked::Leg { date, .. } | Asked::Stop { date, .. }) => no_date(tables, date, ""),
+        (14, Asked::Leg { date, .. } | Asked::Stop { date, .. } | Asked::Sheet { date, .. }) => {
+            no_date(tables, date, "")
+        }
         (15, Asked::Stop { service, stop, date }) => {
             let side = Side { service, stop, date };
             no_period(tables, [Timed::arrival(tables, side), Timed::departure(tables, side)])
         }
         (_, Asked::Change { from, to }) => change(tables, number, from, to),
-        (17, Asked::Station(code)) => no_station(tables, code),
+        (17, Asked::Station(code) | Asked::Sheet { station: code, .. }) => no_station(tables, code),
         (16, _) => not_sound(),
         _ => told(number, "what was asked".into(), "another question".into(), "Ask again.".into()),
     }

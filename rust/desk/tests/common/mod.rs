@@ -7,7 +7,8 @@ use std::io::Write;
 use std::path::{Path, PathBuf};
 use std::process::{Command, Output, Stdio};
 
-use serde_json::Value;
+use second::questions::{Change, Reason, Source, Verdict};
+use serde_json::{Map, Value};
 
 pub const PROGRAM: &str = env!("CARGO_BIN_EXE_calyxcabin");
 
@@ -169,4 +170,41 @@ pub fn with(block: &[u8], old: &str, new: &str) -> Vec<u8> {
     let text: String = block.iter().map(|&byte| char::from(byte)).collect();
     assert!(text.contains(old), "{old} in {text}");
     text.replace(old, new).chars().map(|letter| letter as u8).collect()
+}
+
+/// A change of the second program's as this one tells it.
+pub fn changed(change: Change) -> Value {
+    let mut told = Map::new();
+    let (verdict, reason) = match change.verdict {
+        Verdict::Yes => ("yes", None),
+        Verdict::Unsettled => ("unsettled", None),
+        Verdict::No(reason) => (
+            "no",
+            Some(match reason {
+                Reason::SameServiceAndDate => "same-service-and-date",
+                Reason::FromDoesNotRun => "from-rests",
+                Reason::ToDoesNotRun => "to-rests",
+                Reason::StationsDiffer => "stations-differ",
+                Reason::NobodyAlights => "nobody-alights",
+                Reason::NobodyBoards => "nobody-boards",
+                Reason::PairImpossible => "pair-00",
+                Reason::NoChangesHere => "flag-0",
+                Reason::GapTooShort => "gap-below-needed",
+            }),
+        ),
+    };
+    told.insert("change".into(), verdict.into());
+    let source = change.source.map(|source| match source {
+        Source::Changes => "changes",
+        Source::Stations => "stations",
+        Source::XChanges => "xchanges",
+    });
+    let parts = [
+        ("reason", reason.map(Value::from)),
+        ("gap", change.gap.map(Value::from)),
+        ("source", source.map(Value::from)),
+        ("needed", change.needed.map(Value::from)),
+    ];
+    told.extend(parts.into_iter().filter_map(|(key, part)| Some((key.to_string(), part?))));
+    told.into()
 }

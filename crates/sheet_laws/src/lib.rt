@@ -1,0 +1,1 @@
+// Laws over the definition of a sheet (proofs/). No code, and nothing stands on them.
