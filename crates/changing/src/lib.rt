@@ -26,7 +26,7 @@ use needed_times::{SideRows, StoreCounts};
 use store::Part;
 
 // One side of a change as it is asked: a service, a stop of it, and a date.
-#[derive(Drop)]
+#[derive(Clone, Copy)]
 pub struct Visit {
     pub service: u64,
     pub stop: u64,

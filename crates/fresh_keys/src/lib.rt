@@ -36,7 +36,7 @@ pub fn count_services(t: &[u64]) -> u64
 // RUNS OF KEYS
 
 // What is remembered of the keys of a file so far: whether there are any, whether they rise, and the last.
-#[derive(Drop)]
+#[derive(Clone, Copy)]
 pub struct KeyRun {
     pub any: bool,
     pub rises: bool,

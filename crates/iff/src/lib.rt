@@ -6,7 +6,7 @@ pub mod words;
 
 // The eleven files, by kind. A name, and no number: which comes when, and which is needed, is for specs/Files.antt to say.
 // Files of rows: without record letters, so that every line after the first is a row.
-#[derive(Drop)]
+#[derive(Clone, Copy)]
 pub enum RowFile {
     Company,
     Country,
@@ -15,7 +15,7 @@ pub enum RowFile {
 }
 
 // Files of groups: each group opens with a line beginning `#`.
-#[derive(Drop)]
+#[derive(Clone, Copy)]
 pub enum GroupFile {
     Timezone,
     Footnote,
@@ -25,7 +25,7 @@ pub enum GroupFile {
 }
 
 // DELIVERY has its first line alone, and TIMETBLS has blocks.
-#[derive(Drop)]
+#[derive(Clone, Copy)]
 pub enum File {
     Delivery,
     Rows(RowFile),
@@ -34,20 +34,20 @@ pub enum File {
 }
 
 // The edition of IFF that a delivery is written in.
-#[derive(Drop)]
+#[derive(Clone, Copy)]
 pub enum Edition {
     Iff424,
 }
 
 // What the columns of a delivery's lines depend on: the days of validity, one for each mark of a vector, and the edition.
-#[derive(Drop)]
+#[derive(Clone, Copy)]
 pub struct Form {
     pub days: usize,
     pub edition: Edition,
 }
 
 // The records of the Columns table, in its order.
-#[derive(Drop)]
+#[derive(Clone, Copy)]
 pub enum Record {
     FirstRecord,
     CompanyRow,
@@ -73,7 +73,7 @@ pub enum Record {
 }
 
 // Why something is refused: refusals 1 to 17 and, of the requests, 23, in the paper's order.
-#[derive(Drop)]
+#[derive(Clone, Copy)]
 pub enum Reason {
     TooLong,
     NoRoom,
@@ -96,7 +96,7 @@ pub enum Reason {
 }
 
 // Where: a file, a block's ordinal and a line; or nowhere, for the refusals whose place is 0, 0, 0.
-#[derive(Drop)]
+#[derive(Clone, Copy)]
 pub enum Place {
     Nowhere,
     At(File, u64, u64),
@@ -147,7 +147,7 @@ pub struct InBlock {
 }
 
 // Where the lines of a group stand: before its `#`, right after it, or after a line that follows it.
-#[derive(Drop)]
+#[derive(Clone, Copy)]
 pub enum GroupStand {
     Opening,
     Opened,
@@ -183,14 +183,14 @@ pub enum MinutesOf {
 }
 
 // Minutes on a zone's own clock, and on the reference clock. Only the zone rule turns one into the other.
-#[derive(Drop)]
+#[derive(Clone, Copy)]
 pub struct LocalMinutes(pub i32);
 
-#[derive(Drop)]
+#[derive(Clone, Copy)]
 pub struct ReferenceMinutes(pub i32);
 
 // The row of a key in a table.
-#[derive(Drop)]
+#[derive(Clone, Copy)]
 pub enum RowOf {
     Row(usize),
     NoRow,

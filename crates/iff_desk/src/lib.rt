@@ -10,7 +10,7 @@ pub enum Running {
 }
 
 // A time of a stop, on the zone's clock and on the reference clock; or none.
-#[derive(Drop)]
+#[derive(Clone, Copy)]
 pub enum TimeOf {
     At(LocalMinutes, ReferenceMinutes),
     NoTime,
@@ -23,21 +23,21 @@ pub enum ToldTime {
     Untold,
 }
 
-#[derive(Drop)]
+#[derive(Clone, Copy)]
 pub struct StopTimes {
     pub station: u64,
     pub arrival: TimeOf,
     pub departure: TimeOf,
 }
 
-#[derive(Drop)]
+#[derive(Clone, Copy)]
 pub enum StopTime {
     Times(StopTimes),
     StopTimeRefused(Reason),
 }
 
 // Why a change is a No before a gap is reached.
-#[derive(Drop)]
+#[derive(Clone, Copy)]
 pub enum Early {
     SameService,
     FromRests,
@@ -48,7 +48,7 @@ pub enum Early {
 }
 
 // Where a needed time comes from.
-#[derive(Drop)]
+#[derive(Clone, Copy)]
 pub enum Source {
     FromChanges,
     FromStations,
@@ -56,7 +56,7 @@ pub enum Source {
 }
 
 // Why a change is a No with a gap and a source, and with no needed time: a pair 00 in CHANGES, or a station's flag 0.
-#[derive(Drop)]
+#[derive(Clone, Copy)]
 pub enum Bar {
     Pair00,
     Flag0,
@@ -64,7 +64,7 @@ pub enum Bar {
 
 // A change: refused; No before a gap is reached; No that a pair or a flag brings about, with the gap; then, with gap, source and needed time, No
 // because the gap is too short, Yes, or Unsettled.
-#[derive(Drop)]
+#[derive(Clone, Copy)]
 pub enum Change {
     ChangeRefused(Reason),
     NoBefore(Early),
@@ -75,7 +75,7 @@ pub enum Change {
 }
 
 // One side of a change: a service, a stop of it, and a day counted from the first day of validity.
-#[derive(Drop)]
+#[derive(Clone, Copy)]
 pub struct Call {
     pub service: u64,
     pub stop: u64,
@@ -83,7 +83,7 @@ pub struct Call {
 }
 
 // A company and a mode: those of a service on a leg, or the keys of an exception for one side.
-#[derive(Drop)]
+#[derive(Clone, Copy)]
 pub struct Riding {
     pub company: u64,
     pub mode: u64,

@@ -19,7 +19,7 @@ use iff_desk::{Best, Call, Change, Pair, Riding};
 use store::Part;
 
 // Rows in use of the tables that a change reads.
-#[derive(Drop)]
+#[derive(Clone, Copy)]
 pub struct StoreCounts {
     pub delivery: usize,
     pub timezone: usize,
@@ -32,7 +32,7 @@ pub struct StoreCounts {
 }
 
 // One side as it was found: the service's rows, the row of the stop, and the station there.
-#[derive(Drop)]
+#[derive(Clone, Copy)]
 pub struct SideRows {
     pub part: Part,
     pub row: RowOf,

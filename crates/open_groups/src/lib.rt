@@ -6,7 +6,7 @@ use fresh_keys::KeyRun;
 use iff::GroupStand;
 
 // The group that lines are put to: how many it has so far, where it stands, and what is remembered of the file's keys.
-#[derive(Drop)]
+#[derive(Clone, Copy)]
 pub struct Open {
     pub size: usize,
     pub stand: GroupStand,

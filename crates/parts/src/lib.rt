@@ -9,7 +9,7 @@ use iff::{Reason, Test};
 use iff_desk::Offset;
 
 // The line that is looked for: a station's row, a service's first line, or any line beginning `#`.
-#[derive(Drop)]
+#[derive(Clone, Copy)]
 pub enum Want {
     Station(u64),
     Head(u64),

@@ -16,7 +16,7 @@ pub const ANY_MODE: u64 = 706748448;
 // ROWS IN USE, counted once for a file that is read, and not for each of its lines
 
 // Of the tables that a block of TIMETBLS names.
-#[derive(Drop)]
+#[derive(Clone, Copy)]
 pub struct BlockCounts {
     pub companies: usize,
     pub modes: usize,
@@ -25,14 +25,14 @@ pub struct BlockCounts {
 }
 
 // Of the tables that a row of STATIONS names.
-#[derive(Drop)]
+#[derive(Clone, Copy)]
 pub struct StationCounts {
     pub countries: usize,
     pub zones: usize,
 }
 
 // Of the tables that files of groups name.
-#[derive(Drop)]
+#[derive(Clone, Copy)]
 pub struct GroupCounts {
     pub companies: usize,
     pub modes: usize,

@@ -21,7 +21,7 @@ pub enum TablesAre {
 }
 
 // How many rows of each table are in use. Those of TIMETBLS are most of a delivery's, and are counted where they are tested.
-#[derive(Drop)]
+#[derive(Clone, Copy)]
 pub struct UsedRows {
     pub delivery: usize,
     pub company: usize,

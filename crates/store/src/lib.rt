@@ -20,7 +20,7 @@ pub const ZONE_WIDTH: usize = 6;
 pub const STATION_WIDTH: usize = 6;
 
 // Rows of a table, from `from` on and before `to`.
-#[derive(Drop)]
+#[derive(Clone, Copy)]
 pub struct Part {
     pub from: usize,
     pub to: usize,
