@@ -7,7 +7,7 @@ ghost use Rattle.amend_tests.specs.Judged.{BlockJudged, Judgeable, AmendJudged};
 use iff::{File, Form, Place, Reason, Verdict};
 
 // Some rows of TIMETBLS that give way to a block: how many are in use, from which row on and before which, and the block's lines and stops.
-#[derive(Drop)]
+#[derive(Clone, Copy)]
 pub struct Edit {
     pub used: usize,
     pub from: usize,
@@ -16,7 +16,7 @@ pub struct Edit {
     pub stops: u64,
 }
 
-#[derive(Drop)]
+#[derive(Clone, Copy)]
 pub enum Judged {
     Refuse(Reason, Place),
     Replace(Edit),

@@ -8,7 +8,7 @@ ghost use Rattle.block_ends.specs.Hops.{Ending, Hopped};
 
 // The next block begins at `next`, and so many lines and stops were hopped over: a guess, and whoever uses it counts again. 0 lines where nothing
 // is said of them.
-#[derive(Drop)]
+#[derive(Clone, Copy)]
 pub struct BlockEnd {
     pub next: usize,
     pub lines: u64,

@@ -10,7 +10,7 @@ ghost use Rattle.iff.specs.declared.File.TheVariants.{Timetbls};
 ghost use Rattle.block_lines.specs.Lines.{keys_from, row_test, record_test, block_step};
 
 // What one line leads to.
-#[derive(Drop)]
+#[derive(Clone, Copy)]
 pub enum LineStep {
     Leads(iff::InBlock),
     Refused(iff::Reason),

@@ -9,7 +9,7 @@ use new_services::{Newness, after_block, tell_new};
 
 // What became of a block: what is remembered of the services with it, where the next block's rows go, and whether its service was told to be new; or
 // why it is refused, and at which line.
-#[derive(Drop)]
+#[derive(Clone, Copy)]
 pub enum BlockPut {
     Kept(fresh_keys::KeyRun, usize, bool),
     Faulty(iff::Reason, u64),

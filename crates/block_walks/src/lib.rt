@@ -4,7 +4,7 @@ ghost use Rattle.std.specs.Prelude.{◌≡◌, ◌&&◌};
 ghost use Rattle.block_walks.specs.Blocks.{BlocksReady, BlocksWalked};
 
 // What became of all of them: whether the services rise, how many rows the table has with them, and how many services; or the first fault.
-#[derive(Drop)]
+#[derive(Clone, Copy)]
 pub enum BlocksPut {
     All(bool, usize, u64),
     Refused(iff::Reason, iff::Place),
@@ -12,7 +12,7 @@ pub enum BlocksPut {
 
 // The same with what is known at the end of a walk over the blocks: in how many rows of the table the blocks stand that were put, how many those are,
 // and whether each was told to name a new service. Where not, a service that came twice is the first fault.
-#[derive(Drop)]
+#[derive(Clone, Copy)]
 pub struct Walk {
     pub put: BlocksPut,
     pub row: usize,

@@ -7,21 +7,21 @@ ghost use Rattle.blocks.specs.Drive.{drive_at, turn_to, Standing, TurnsTo};
 ghost use Rattle.blocks.specs.Whole.{LinesRead, last_tests, BlockChecked};
 
 // What the line that starts somewhere in a text leads to, with the start of the next.
-#[derive(Drop)]
+#[derive(Clone, Copy)]
 pub enum Turned {
     On(usize, iff::InBlock),
     Off(iff::Reason),
 }
 
 // What the lines of a block lead to: where they stand and how many they are, or why and at which line they are held.
-#[derive(Drop)]
+#[derive(Clone, Copy)]
 pub enum Driven {
     Through(iff::InBlock, u64),
     Held(iff::Reason, u64),
 }
 
 // What is said of a block: its lines and its stops, or why it is refused and at which line, from 1.
-#[derive(Drop)]
+#[derive(Clone, Copy)]
 pub enum Checked {
     Whole(u64, u64),
     Broken(iff::Reason, u64),

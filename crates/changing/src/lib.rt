@@ -34,7 +34,7 @@ pub struct Visit {
 }
 
 // The first No before a gap, or none.
-#[derive(Drop)]
+#[derive(Clone, Copy)]
 pub enum FirstNo {
     Stops(Early),
     Clear,

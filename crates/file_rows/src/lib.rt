@@ -17,7 +17,7 @@ use reading::RowsRead;
 use references::StationCounts;
 
 // A row that was kept has a key; one that was not, a reason.
-#[derive(Drop)]
+#[derive(Clone, Copy)]
 pub enum RowKept {
     Key(u64),
     Refused(Reason),

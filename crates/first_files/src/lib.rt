@@ -6,7 +6,7 @@ ghost use Rattle.first_files.specs.Firsts.{seven, FirstsReady, FirstsRead};
 use iff::{Form, GroupFile, RowFile, Verdict};
 
 // What is known after them: the first fault, and the form that DELIVERY's first line gives.
-#[derive(Drop)]
+#[derive(Clone, Copy)]
 pub struct FirstFiles {
     pub verdict: Verdict,
     pub form: Form,

@@ -12,7 +12,7 @@ use open_groups::Open;
 use references::GroupCounts;
 
 // A line was put to its group; or it opens a group where the last one may not end, which is the fault of the line before it; or it is refused.
-#[derive(Drop)]
+#[derive(Clone, Copy)]
 pub enum LinePut {
     Put(Open),
     Early,

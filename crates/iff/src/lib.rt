@@ -103,21 +103,21 @@ pub enum Place {
 }
 
 // What the tests of one line say.
-#[derive(Drop)]
+#[derive(Clone, Copy)]
 pub enum Test {
     Passes,
     Fails(Reason),
 }
 
 // What the tests of lines, blocks and files say: the first fault, with its place.
-#[derive(Drop)]
+#[derive(Clone, Copy)]
 pub enum Verdict {
     Fine,
     Fault(Reason, Place),
 }
 
 // What a load or an amendment answers: the days and the services, or the refusal.
-#[derive(Drop)]
+#[derive(Clone, Copy)]
 pub enum Answer {
     Accepted(u64, u64),
     Refused(Reason, Place),
@@ -125,7 +125,7 @@ pub enum Answer {
 
 // Where the lines of a TIMETBLS block stand: before its `#`, or after which record. `Between` is after a passed station or a platform
 // record, where no platform record may follow.
-#[derive(Drop)]
+#[derive(Clone, Copy)]
 pub enum Stand {
     Start,
     Hash,
@@ -140,7 +140,7 @@ pub enum Stand {
 }
 
 // Where a block's next line stands, and how many stops came before it.
-#[derive(Drop)]
+#[derive(Clone, Copy)]
 pub struct InBlock {
     pub stand: Stand,
     pub stops: u64,
@@ -155,28 +155,28 @@ pub enum GroupStand {
 }
 
 // What a record's letter does there.
-#[derive(Drop)]
+#[derive(Clone, Copy)]
 pub enum Next {
     Goes(Stand),
     NotHere,
 }
 
 // Where a line's body ends, and whether CR LF ends it there.
-#[derive(Drop)]
+#[derive(Clone, Copy)]
 pub enum Eol {
     Ended(usize),
     Unended,
 }
 
 // A date as a day's number; 01011600 is day 0.
-#[derive(Drop)]
+#[derive(Clone, Copy)]
 pub enum DayOf {
     Day(u64),
     NotADay,
 }
 
 // A time as minutes; 9999 and what is no time have none.
-#[derive(Drop)]
+#[derive(Clone, Copy)]
 pub enum MinutesOf {
     Minutes(u64),
     NoMinutes,

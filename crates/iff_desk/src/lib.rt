@@ -2,7 +2,7 @@
 use iff::{LocalMinutes, Reason, ReferenceMinutes};
 
 // Running day: does the service run on that leg on that date?
-#[derive(Drop)]
+#[derive(Clone, Copy)]
 pub enum Running {
     Runs,
     Rests,
@@ -17,7 +17,7 @@ pub enum TimeOf {
 }
 
 // A time by the period that holds its own day: told, or not, where the zone has no period on that day.
-#[derive(Drop)]
+#[derive(Clone, Copy)]
 pub enum ToldTime {
     Told(TimeOf),
     Untold,
@@ -90,21 +90,21 @@ pub struct Riding {
 }
 
 // The row of CHANGES for two services at a station: its possibility.
-#[derive(Drop)]
+#[derive(Clone, Copy)]
 pub enum Pair {
     Possibility(u64),
     NoPair,
 }
 
 // The best row of XCHANGES that applies: its rank and time.
-#[derive(Drop)]
+#[derive(Clone, Copy)]
 pub enum Best {
     BestRow(u64, u64),
     NoBest,
 }
 
 // Where a line that is looked for begins in a text.
-#[derive(Drop)]
+#[derive(Clone, Copy)]
 pub enum Offset {
     From(usize),
     NotFound,

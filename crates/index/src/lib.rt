@@ -6,14 +6,14 @@ ghost use Rattle.slot_puts.specs.Puts.{AtRow};
 ghost use Rattle.index.specs.Keying.{RowPut, KeysPut};
 
 // What a table's keys are like.
-#[derive(Drop)]
+#[derive(Clone, Copy)]
 pub struct KeysAre {
     pub distinct: bool,
     pub rise: bool,
 }
 
 // What a row leaves: its key came before, or the run of the keys so far.
-#[derive(Drop)]
+#[derive(Clone, Copy)]
 pub enum Next {
     Came,
     Goes(fresh_keys::KeyRun),

@@ -9,7 +9,7 @@ ghost use Rattle.key_classes.specs.Classes.{class_of, KeyTried, ClassAsked};
 use key_sets::Tried;
 
 // How many services are left to be asked after a class: no fewer, or those before the first of the class that came before; or nothing is told.
-#[derive(Drop)]
+#[derive(Clone, Copy)]
 pub enum Asked {
     Upto(usize),
     Nothing,

@@ -3,7 +3,7 @@ ghost use Rattle.std.specs.Prelude.{◌<◌, length};
 ghost use Rattle.key_sets.specs.Sets.{window, Probed, KeyPut};
 
 // What the slots for a key are like: a free one comes before any that holds the key, or one holds it, or neither.
-#[derive(Drop)]
+#[derive(Clone, Copy)]
 enum Met {
     Free(usize),
     Taken,
@@ -11,7 +11,7 @@ enum Met {
 }
 
 // What a key is: none that was asked before, or one that came; or there is no room to tell.
-#[derive(Drop)]
+#[derive(Clone, Copy)]
 pub enum Tried {
     Goes,
     Came,

@@ -6,7 +6,7 @@ ghost use Rattle.last_files.specs.Lasts.{four, LastsReady, LastsRead};
 use iff::{Form, GroupFile, Verdict};
 
 // What is known after them: the first fault, and where there is none how many services TIMETBLS has.
-#[derive(Drop)]
+#[derive(Clone, Copy)]
 pub struct LastFiles {
     pub verdict: Verdict,
     pub services: u64,

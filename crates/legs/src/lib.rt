@@ -7,7 +7,7 @@ ghost use Rattle.leg_marks.specs.Tally.{Tally};
 ghost use Rattle.legs.specs.Rows.{times, SpanOf, Markable};
 
 // The stops that a record goes from and to.
-#[derive(Drop)]
+#[derive(Clone, Copy)]
 pub struct Span {
     pub first: u64,
     pub last: u64,

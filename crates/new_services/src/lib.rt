@@ -10,7 +10,7 @@ ghost use Rattle.marks.specs.Marks.{slots, Marked};
 ghost use Rattle.new_services.specs.News.{NewTold, Remembered};
 
 // Whether a block's service is new to those before it, and whether that was found out: else it is taken for new.
-#[derive(Drop)]
+#[derive(Clone, Copy)]
 pub struct Newness {
     pub fresh: bool,
     pub told: bool,

@@ -17,7 +17,7 @@ pub enum Want {
 }
 
 // A part of a text by its bounds, from a byte on and before another; or the refusal, with an empty part from 0 to 0.
-#[derive(Drop)]
+#[derive(Clone, Copy)]
 pub struct Part {
     pub test: Test,
     pub from: usize,

@@ -3,7 +3,7 @@ ghost use Rattle.std.specs.Prelude.{◌≡◌, ◌<◌, length};
 ghost use Rattle.places.specs.Slots.{Inside};
 
 // Where a number stands among the slots for a key, or the first free one before it; or neither.
-#[derive(Drop)]
+#[derive(Clone, Copy)]
 pub enum Slot {
     Of(usize),
     Free(usize),

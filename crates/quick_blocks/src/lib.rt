@@ -11,14 +11,14 @@ ghost use Rattle.quick_blocks.specs.Drive.{Drivable, Drove};
 ghost use Rattle.quick_blocks.specs.Whole.{WholeSeen, QuickPut};
 
 // All lines' rows were put, so many, and the block stands so at its end; or nothing is said of it.
-#[derive(Drop)]
+#[derive(Clone, Copy)]
 pub enum Ridden {
     Lines(usize, iff::InBlock),
     Stuck,
 }
 
 // A block of so many lines and stops is right, and its rows are put; or it is left to others.
-#[derive(Drop)]
+#[derive(Clone, Copy)]
 pub enum Quickly {
     Put(u64, u64),
     Left,

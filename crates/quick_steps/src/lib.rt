@@ -12,7 +12,7 @@ ghost use Rattle.quick_steps.specs.Places.{place_in_block, goes_from};
 ghost use Rattle.quick_steps.specs.Steps.{Passing, WordsPut, LineTurn};
 
 // A line's row was put, and the next line begins there with the block standing so; or nothing is said of it.
-#[derive(Drop)]
+#[derive(Clone, Copy)]
 pub enum LinePut {
     Next(usize, iff::InBlock),
     Unsure,

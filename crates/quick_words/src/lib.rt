@@ -4,7 +4,7 @@ ghost use Rattle.iff.specs.Values.{stop_of, number_of};
 
 // The words of a record's row between its tag and its line's number, the last of which is 0 in every record; and how many columns the record has,
 // 0 where it is not told to be right.
-#[derive(Drop)]
+#[derive(Clone, Copy)]
 pub struct Words {
     pub width: usize,
     pub one: u64,

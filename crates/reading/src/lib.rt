@@ -4,14 +4,14 @@ ghost use Rattle.std.specs.Prelude.{◌+◌, ◌^◌, ◌<◌, ◌≡◌};
 use iff::{Place, Reason};
 
 // Where the lines after a first line begin; or why it is refused.
-#[derive(Drop)]
+#[derive(Clone, Copy)]
 pub enum Begin {
     Rest(usize),
     Broken(Reason),
 }
 
 // All rows were read, and whether their keys rise; or the first fault, with its place.
-#[derive(Drop)]
+#[derive(Clone, Copy)]
 pub enum RowsRead {
     AllRead(bool),
     Stopped(Reason, Place),

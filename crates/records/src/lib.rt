@@ -31,11 +31,11 @@ lnnnnnnnn,nnnnnnnn,nn\
 laaa,cccc,aaa,cccc,nnn,nnnnn";
 
 // A record's part of the pictures and of the fields: where its columns begin and end, and its fields. The vector's is empty.
-#[derive(Drop)]
+#[derive(Clone, Copy)]
 pub struct Spans(pub usize, pub usize, pub usize, pub usize);
 
 // One field: its first column, counted from 1, its width and its class.
-#[derive(Drop)]
+#[derive(Clone, Copy)]
 pub struct Entry(pub usize, pub usize, pub u8);
 
 pub fn spans_of(record: iff::Record) -> Spans
@@ -212,7 +212,7 @@ pub fn block_record(letter: u8) -> iff::Record
 // Layout.
 
 // How a line looks beside a picture: it fits, and it has the figures.
-#[derive(Drop)]
+#[derive(Clone, Copy)]
 pub struct Looks(pub bool, pub bool);
 
 fn looks_by(line: &[u8], picture: &[u8]) -> Looks

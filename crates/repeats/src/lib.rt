@@ -8,7 +8,7 @@ ghost use Rattle.repeats.specs.Repeats.{Told};
 use key_classes::Asked;
 
 // What is told of the services of a table: that none comes twice; or how many come before the first that came before; or nothing.
-#[derive(Drop)]
+#[derive(Clone, Copy)]
 pub enum Repeats {
     Never,
     First(u64),

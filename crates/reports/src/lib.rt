@@ -15,7 +15,7 @@ const BLANK: u8 = 32;
 const LF: u8 = 10;
 
 // What the check program says of a delivery: the first file that is larger than it reads, or the load's answer.
-#[derive(Drop)]
+#[derive(Clone, Copy)]
 pub enum Report {
     Larger(Place),
     Answered(Answer),

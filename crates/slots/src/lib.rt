@@ -5,7 +5,7 @@ ghost use Rattle.keys.specs.Places.{probes, place_of};
 ghost use Rattle.slots.specs.Slots.{Probed};
 
 // What the slots for a key are like: a free one comes before any row of the key, or a row of the key is met, or neither.
-#[derive(Drop)]
+#[derive(Clone, Copy)]
 pub enum Met {
     Free(usize),
     Taken,

@@ -14,7 +14,7 @@ use iff::{Edition, File, Form, GroupFile, RowFile, words};
 pub const SLOTS: usize = 131135;
 
 // Tables are sound, and whether the slots are then an index of all services: a free slot says that a service is not there.
-#[derive(Drop)]
+#[derive(Clone, Copy)]
 pub enum TablesAre {
     Sound(bool),
     Unsound,

@@ -10,7 +10,7 @@ ghost use Rattle.sound_behind.specs.Behind.{behind, BlocksJudged};
 use iff::{File, Form, GroupFile, RowFile, tags, words};
 
 // What is told of TIMETBLS: that it is right, how many of its rows are in use, and whether all of its services are in the index.
-#[derive(Drop)]
+#[derive(Clone, Copy)]
 pub enum Judged {
     Right(usize, bool),
     Wrong,

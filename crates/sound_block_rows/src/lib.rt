@@ -10,7 +10,7 @@ ghost use Rattle.sound_block_rows.specs.Told.{RowTold};
 use iff::words;
 
 // Where a block stands after a row that is sound; or that the row is not.
-#[derive(Drop)]
+#[derive(Clone, Copy)]
 pub enum After {
     Stands(iff::InBlock),
     Unsound,

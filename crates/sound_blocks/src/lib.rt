@@ -5,7 +5,7 @@ ghost use Rattle.sound_blocks.specs.Blocks.{BlockTold};
 use sound_row_walks::Walked;
 
 // The row behind a sound block.
-#[derive(Drop)]
+#[derive(Clone, Copy)]
 pub enum Tested {
     Sound(usize),
     Unsound,

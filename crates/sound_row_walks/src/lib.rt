@@ -7,7 +7,7 @@ ghost use Rattle.sound_block_rows.specs.Told.{RowTold};
 ghost use Rattle.sound_row_walks.specs.Walk.{used_in, BlockAt, BlockWalked};
 
 // Where the rows of a block lead, each of them sound, and the row behind them; or that one is not.
-#[derive(Drop)]
+#[derive(Clone, Copy)]
 pub enum Walked {
     Through(iff::InBlock, usize),
     Unsound,

@@ -9,7 +9,7 @@ ghost use Rattle.sound_timetbls.specs.Told.{BlocksTold, EndTold};
 
 // All blocks are sound and no service comes twice: the number of rows in use, the first line's among them, whether the services rise, and whether all
 // of them are in the index.
-#[derive(Drop)]
+#[derive(Clone, Copy)]
 pub enum BlocksAre {
     Sound(usize, bool, bool),
     Unsound,

@@ -76,7 +76,7 @@ pub fn line_end(text: &[u8], at: usize) -> iff::Eol
 }
 
 // A line where it stands: its body is `at..end`, CR LF ends it or nothing does, and the next line begins at `next`.
-#[derive(Drop)]
+#[derive(Clone, Copy)]
 pub struct LineSpan {
     pub end: usize,
     pub ended: bool,

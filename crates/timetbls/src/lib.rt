@@ -11,7 +11,7 @@ ghost use Rattle.timetbls.specs.Done.{TimetblsDone};
 
 // What became of the file, and how many rows and services its table has where there is no fault: they are counted as they are read, so that no later
 // reader goes through the table for them.
-#[derive(Drop)]
+#[derive(Clone, Copy)]
 pub struct TimetblsRead {
     pub verdict: iff::Verdict,
     pub rows: usize,
