@@ -1,0 +1,33 @@
+-- `amend::amend` meets its contract: soundness first, which the rest stands on. Assumes nothing.
+use mathlib.Core.Path.{◌≡◌, sym, ◌∙◌}
+use mathlib.Core.Bool.{true}
+use mathlib.Core.List.{List}
+use Prim.Native.Nat.{ℕ}
+use borrow.Author.Tests.{not-true, not-false}
+use Rattle.iff.specs.Files.{PerFile, eleven}
+use Rattle.iff_desk.specs.Sound.{sound}
+use Rattle.amend.proofs.AmendLaws.{not_sound, sound_there, amended_sound}
+use Rattle.amend.proofs.amend.Goals as goal
+
+-- the tables at entry
+abbrev tables : goal.Start → PerFile (List ℕ)
+tables s =
+    let a = s.args in
+    eleven a.delivery.now a.company.now a.country.now a.trnsmode.now a.timezone.now a.stations.now a.footnote.now
+    a.timetbls.now a.changes.now a.xfootnote.now a.xchanges.now
+
+-- they are sound
+are-sound : (c : goal.Else-not-is_sound_by) → sound (tables c.before.before.before.before.before.before.before.before.before.before.before.before.before.before.before.before) ≡ true
+are-sound c = sym c.is_sound_by.ensures ∙ not-false _ c.if-not-is_sound_by.false-raw
+
+pub returns-then-not-is_sound_by : goal.returns-then-not-is_sound_by
+returns-then-not-is_sound_by c =
+    not_sound (tables c.before.before.before.before.before.before.before.before.before.before.before.before.before.before.before.before) c.args.service c.args.block.now (sym c.is_sound_by.ensures ∙ not-true _ c.if-not-is_sound_by.true-raw)
+
+pub amend_there-requires : goal.amend_there-requires
+amend_there-requires c =
+    sound_there (tables c.before.before.before.before.before.before.before.before.before.before.before.before.before.before.before.before.before.before) c.args.service c.args.block.now (are-sound c)
+
+pub returns : goal.returns
+returns c =
+    amended_sound (tables c.before.before.before.before.before.before.before.before.before.before.before.before.before.before.before.before.before.before.before.before.before) c.args.service c.args.block.now (are-sound c) _ _ c.amend_there.ensures

@@ -1,0 +1,46 @@
+-- `block_walks::add_blocks` meets its contract: the blocks left say what all blocks were to say. Assumes nothing.
+use Prim.Native.Nat.{◌-◌}
+use mathlib.Core.Path.{◌≡◌, sym, ◌∙◌}
+use lib.ListN.{length}
+use Rattle.block_walks.proofs.AddLaws.{Adding, adding_start, addable, adding_faulty, adding_next, adding_end}
+use Rattle.block_walks.proofs.add_blocks.Goals as goal
+
+-- the marks at the loop are as many as they were
+marks-kept : (l : goal.At-loop-at) → length l.loop-at.marks ≡ length l.args.marks.now
+marks-kept l = l.loop-at.invariant.holding.marked.wide ∙ sym l.requires.holding.marked.wide
+
+pub loop-at-init : goal.loop-at-init
+loop-at-init c = adding_start _ _ _ _ _ _ _ _ _ _ _ c.requires _ c.no_keys-run.ensures
+
+pub next_head-found-requires : goal.next_head-found-requires
+next_head-found-requires c = (c.loop-at-test.true, c.loop-at.invariant.clean)
+
+pub add_block-requires : goal.add_block-requires
+add_block-requires c =
+    let l = c.loop-at in
+    addable _ _ _ _ _ _ _ _ _ _ l.t l.marks l.at l.row l.done l.run l.sure l.invariant _ c.next_head-found.ensures
+
+pub returns-in-Faulty : goal.returns-in-Faulty
+returns-in-Faulty c =
+    let l = c.loop-at in
+    adding_faulty _ _ _ _ _ _ _ _ _ _ l.t l.marks l.at l.row l.done l.run l.sure l.invariant _ c.next_head-found.ensures
+    _ _ _ c.add_block.ensures c.add_block.auto.1.1.1.1.1.0 _ _ c.in-Faulty.is
+
+pub loop-at-preserved : goal.loop-at-preserved
+loop-at-preserved c =
+    let l = c.loop-at in
+    adding_next _ _ _ _ _ _ _ _ _ _ l.t l.marks l.at l.row l.done l.run l.sure l.invariant _ c.next_head-found.ensures
+    _ _ _ c.add_block.ensures c.add_block.auto.1.1.1.1.1.0 _ _ _ c.in-Kept.is _ c.both-sure.ensures
+
+pub returns : goal.returns
+returns c =
+    let l = c.loop-at in
+    adding_end _ _ _ _ _ _ _ _ _ _ l.t l.marks l.at l.row l.done l.run l.sure l.invariant c.loop-at-test.false
+
+-- there are as many marks as there were
+pub shape_of-marks-in-Faulty : goal.shape_of-marks-in-Faulty
+shape_of-marks-in-Faulty c =
+    c.add_block.auto.1.1.1.0 ∙ marks-kept c.before.before.before.before.before.before.before.before.before.before.before
+
+pub shape_of-marks : goal.shape_of-marks
+shape_of-marks c = marks-kept c.before

@@ -1,0 +1,39 @@
+-- `fresh_in_group` meets its contract: what is left clashes exactly when the whole does. Assumes nothing.
+use Prim.Native.Nat.{◌-◌}
+use mathlib.Core.Path.{◌≡◌, ap, sym, ◌∙◌}
+use mathlib.Core.Bool.{not}
+use Rattle.iff_rules.specs.Unique.{clash}
+use Rattle.tables.proofs.Rows.{row_inside}
+use Rattle.keys.proofs.Blocks.{none_left, one_here, one_on}
+use Rattle.clashes.proofs.fresh_in_group.Goals as goal
+
+pub loop-i-init : goal.loop-i-init
+loop-i-init c = (c.row_width-w.ensures.is, rw c.row_width-w.ensures.is)
+
+pub clashes_at-requires : goal.clashes_at-requires
+clashes_at-requires c =
+    let e = c.loop-i.invariant.0 in
+    (e, row_inside _ _ _ _ c.loop-i-test.true (rw e c.requires.0), c.requires.1 ∙ sym e)
+
+pub returns-then-clashes_at : goal.returns-then-clashes_at
+returns-then-clashes_at c =
+    let a = c.args in
+    ap not
+    (sym
+    (c.loop-i.invariant.1
+    ∙ one_here (clash a.file a.row.now) _ a.t.now a.to c.loop-i.i c.loop-i-test.true _
+    c.clashes_at.ensures c.if-clashes_at.true))
+
+pub loop-i-preserved : goal.loop-i-preserved
+loop-i-preserved c =
+    let a = c.args in (
+      c.loop-i.invariant.0,
+      c.loop-i.invariant.1
+          ∙ one_on (clash a.file a.row.now) _ a.t.now a.to c.loop-i.i c.loop-i-test.true _
+          c.clashes_at.ensures c.if-clashes_at.false,
+    )
+
+pub returns : goal.returns
+returns c =
+    let a = c.args in
+    ap not (sym (c.loop-i.invariant.1 ∙ none_left (clash a.file a.row.now) _ a.t.now a.to c.loop-i.i c.loop-i-test.false))

@@ -1,0 +1,9 @@
+-- What the bytes that are left say is the whole. Assumes nothing.
+use Rattle.codes.proofs.CodeLaws.{Coding, code_begin, code_fails, code_on, code_long, code_end}
+use Rattle.codes.proofs.is_code.Given as goal
+
+abbrev pub invariant-loop-columns : goal.invariant-loop-columns
+invariant-loop-columns l = Coding l.word l.width l.left l.columns l.blank
+
+abbrev pub decreases-loop-columns : goal.decreases-loop-columns
+decreases-loop-columns l = l.columns

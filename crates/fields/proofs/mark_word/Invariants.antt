@@ -1,0 +1,10 @@
+-- `fields::mark_word` meets its contract. The loop's invariant: the word is what the marks from i on make, and is below 2 to their number. Assumes nothing.
+use Prim.Native.Nat.{ℕ, ◌-◌}
+use Rattle.text.proofs.ValueLaws.{Marked, marked_none, marked_room, marked_fits, marked_next, marked_all}
+use Rattle.fields.proofs.mark_word.Given as goal
+
+abbrev pub invariant-loop-i : goal.invariant-loop-i
+invariant-loop-i l = Marked l.marks l.i l.word
+
+abbrev pub decreases-loop-i : goal.decreases-loop-i
+decreases-loop-i l = l.i

@@ -1,0 +1,12 @@
+-- `met_change` meets its contract. Assumes nothing.
+use borrow.Author.Tests.{eq-eqb, ne_eqb}
+use Rattle.iff_rules.specs.References.{met_in_group}
+use Rattle.group_references.proofs.met_change.Goals as goal
+
+pub returns-then-row-eq-HASH : goal.returns-then-row-eq-HASH
+unfolding met_in_group
+returns-then-row-eq-HASH c k a = rw (eq-eqb _ _ c.if-row-eq-HASH.true, a.stations) c.names_at.ensures
+
+pub returns : goal.returns
+unfolding met_in_group
+returns c k a = rw (ne_eqb _ _ c.if-row-eq-HASH.false, a.services) c.met_pair.ensures

@@ -1,0 +1,106 @@
+-- `load` meets its contract: what each call tells is handed to the law of the whole. Assumes nothing.
+use Prim.Native.Nat.{ℕ}
+use mathlib.Core.Path.{◌≡◌, ◌∙◌}
+use mathlib.Core.Bool.{true}
+use mathlib.Core.List.{List}
+use lib.ListN.{length}
+use Rattle.iff.specs.Files.{PerFile, of, per_file, eleven}
+use Rattle.iff.specs.Refusals.{fine}
+use Rattle.load_laws.proofs.LoadLaw.{Fit, roomy, firsts_ready, lasts_ready, firsts_back, loaded}
+use Rattle.load.proofs.load.Goals as goal
+
+-- WHAT WAS LENT
+abbrev files : goal.Start → PerFile (List ℕ)
+files s =
+    eleven s.args.delivery.now s.args.company.now s.args.country.now s.args.trnsmode.now s.args.timezone.now
+    s.args.stations.now
+    s.args.footnote.now s.args.timetbls.now s.args.changes.now s.args.xfootnote.now s.args.xchanges.now
+
+abbrev lent : goal.Start → PerFile (List ℕ)
+lent s =
+    eleven s.args.t-delivery.now s.args.t-company.now s.args.t-country.now s.args.t-trnsmode.now s.args.t-timezone.now
+    s.args.t-stations.now
+    s.args.t-footnote.now s.args.t-timetbls.now s.args.t-changes.now s.args.t-xfootnote.now s.args.t-xchanges.now
+
+abbrev rooms : goal.Start → PerFile ℕ
+rooms s = per_file (λ f. length (of (lent s) f))
+
+-- every file has room in its table
+abbrev Fits : goal.Start → Type 0
+Fits s = Fit (files s) (rooms s)
+
+fit : (c : goal.After-clear_all) → fine c.sizes-v0.result ≡ true → Fits c.before.before.before.before.before.before.before.before.before.before.before.before.before.before.before.before.before.before.before.before.before.before.before.before.before.before.before.before.before.before.before.before.before.before.before
+fit c g = roomy (files c.before.before.before.before.before.before.before.before.before.before.before.before.before.before.before.before.before.before.before.before.before.before.before.before.before.before.before.before.before.before.before.before.before.before.before) (rooms c.before.before.before.before.before.before.before.before.before.before.before.before.before.before.before.before.before.before.before.before.before.before.before.before.before.before.before.before.before.before.before.before.before.before.before) _ c.sizes-v0.ensures g
+
+pub read_first_files-first-requires : goal.read_first_files-first-requires
+read_first_files-first-requires c =
+    λ g. firsts_ready (files c.before.before.before.before.before.before.before.before.before.before.before.before.before.before.before.before.before.before.before.before.before.before.before.before.before.before.before.before.before.before.before.before.before.before.before.before.before.before.before.before.before.before.before.before.before.before.before.before.before.before.before.before.before.before.before.before.before.before.before.before.before.before.before.before.before) (lent c.before.before.before.before.before.before.before.before.before.before.before.before.before.before.before.before.before.before.before.before.before.before.before.before.before.before.before.before.before.before.before.before.before.before.before.before.before.before.before.before.before.before.before.before.before.before.before.before.before.before.before.before.before.before.before.before.before.before.before.before.before.before.before.before.before) (eleven _ _ _ _ _ _ _ _ _ _ _) (fit c.before.before.before.before.before.before.before.before.before.before.before.before.before.before.before.before.before.before.before.before.before.before.before.before.before.before.before.before.before.before g) c.clear_all.ensures
+
+pub read_last_files-last-requires : goal.read_last_files-last-requires
+read_last_files-last-requires c =
+    λ g.
+    lasts_ready (files c.before.before.before.before.before.before.before.before.before.before.before.before.before.before.before.before.before.before.before.before.before.before.before.before.before.before.before.before.before.before.before.before.before.before.before.before.before.before.before.before.before.before.before.before.before.before.before.before.before.before.before.before.before.before.before.before.before.before.before.before.before.before.before.before.before.before.before.before.before.before.before.before.before.before.before.before.before.before.before.before.before.before.before.before.before) (lent c.before.before.before.before.before.before.before.before.before.before.before.before.before.before.before.before.before.before.before.before.before.before.before.before.before.before.before.before.before.before.before.before.before.before.before.before.before.before.before.before.before.before.before.before.before.before.before.before.before.before.before.before.before.before.before.before.before.before.before.before.before.before.before.before.before.before.before.before.before.before.before.before.before.before.before.before.before.before.before.before.before.before.before.before.before) (eleven _ _ _ _ _ _ _ _ _ _ _)
+    (fit c.before.before.before.before.before.before.before.before.before.before.before.before.before.before.before.before.before.before.before.before.before.before.before.before.before.before.before.before.before.before.before.before.before.before.before.before.before.before.before.before.before.before.before.before.before.before.before.before.before.before (firsts_back c.read_first_files-first.ensures g))
+    c.clear_all.ensures
+
+-- THE TABLES KEEP THEIR LENGTHS
+pub shape_of-t_delivery : goal.shape_of-t_delivery
+shape_of-t_delivery c = c.settle.auto.1.0 ∙ c.read_first_files-first.ensures.delivered.kept ∙ c.clear_all.auto.0
+
+pub shape_of-t_company : goal.shape_of-t_company
+shape_of-t_company c = c.settle.auto.1.1.0 ∙ c.read_first_files-first.ensures.companies.kept ∙ c.clear_all.auto.1.0
+
+pub shape_of-t_country : goal.shape_of-t_country
+shape_of-t_country c = c.settle.auto.1.1.1.0 ∙ c.read_first_files-first.ensures.countries.kept ∙ c.clear_all.auto.1.1.0
+
+pub shape_of-t_trnsmode : goal.shape_of-t_trnsmode
+shape_of-t_trnsmode c = c.settle.auto.1.1.1.1.0 ∙ c.read_first_files-first.ensures.modes.kept ∙ c.clear_all.auto.1.1.1.0
+
+pub shape_of-t_timezone : goal.shape_of-t_timezone
+shape_of-t_timezone c =
+    c.settle.auto.1.1.1.1.1.0 ∙ c.read_first_files-first.ensures.zones.kept
+    ∙ c.clear_all.auto.1.1.1.1.0
+
+pub shape_of-t_stations : goal.shape_of-t_stations
+shape_of-t_stations c =
+    c.settle.auto.1.1.1.1.1.1.0 ∙ c.read_first_files-first.ensures.places.kept
+    ∙ c.clear_all.auto.1.1.1.1.1.0
+
+pub shape_of-t_footnote : goal.shape_of-t_footnote
+shape_of-t_footnote c =
+    c.settle.auto.1.1.1.1.1.1.1.0 ∙ c.read_first_files-first.ensures.footnotes.kept
+    ∙ c.clear_all.auto.1.1.1.1.1.1.0
+
+pub shape_of-t_timetbls : goal.shape_of-t_timetbls
+shape_of-t_timetbls c =
+    c.settle.auto.1.1.1.1.1.1.1.1.0 ∙ c.read_last_files-last.ensures.blocks.kept
+    ∙ c.clear_all.auto.1.1.1.1.1.1.1.0
+
+pub shape_of-t_changes : goal.shape_of-t_changes
+shape_of-t_changes c =
+    c.settle.auto.1.1.1.1.1.1.1.1.1.0 ∙ c.read_last_files-last.ensures.changed.kept
+    ∙ c.clear_all.auto.1.1.1.1.1.1.1.1.0
+
+pub shape_of-t_xfootnote : goal.shape_of-t_xfootnote
+shape_of-t_xfootnote c =
+    c.settle.auto.1.1.1.1.1.1.1.1.1.1.0 ∙ c.read_last_files-last.ensures.marked.kept
+    ∙ c.clear_all.auto.1.1.1.1.1.1.1.1.1.0
+
+pub shape_of-t_xchanges : goal.shape_of-t_xchanges
+shape_of-t_xchanges c =
+    c.settle.auto.1.1.1.1.1.1.1.1.1.1.1.0 ∙ c.read_last_files-last.ensures.excepted.kept
+    ∙ c.clear_all.auto.1.1.1.1.1.1.1.1.1.1.0
+
+pub returns : goal.returns
+returns c =
+    loaded (files c.before.before.before.before.before.before.before.before.before.before.before.before.before.before.before.before.before.before.before.before.before.before.before.before.before.before.before.before.before.before.before.before.before.before.before.before.before.before.before.before.before.before.before.before.before.before.before.before.before.before.before.before.before.before.before.before.before.before.before.before.before.before.before.before.before.before.before.before.before.before.before.before.before.before.before.before.before.before.before.before.before.before.before.before.before.before.before.before.before.before.before.before.before.before.before.before.before.before.before.before.before.before.before.before.before.before.before.before.before.before.before.before.before.before.before.before.before.before.before.before.before.before.before.before.before.before.before.before.before) (lent c.before.before.before.before.before.before.before.before.before.before.before.before.before.before.before.before.before.before.before.before.before.before.before.before.before.before.before.before.before.before.before.before.before.before.before.before.before.before.before.before.before.before.before.before.before.before.before.before.before.before.before.before.before.before.before.before.before.before.before.before.before.before.before.before.before.before.before.before.before.before.before.before.before.before.before.before.before.before.before.before.before.before.before.before.before.before.before.before.before.before.before.before.before.before.before.before.before.before.before.before.before.before.before.before.before.before.before.before.before.before.before.before.before.before.before.before.before.before.before.before.before.before.before.before.before.before.before.before.before) (eleven _ _ _ _ _ _ _ _ _ _ _) (eleven _ _ _ _ _ _ _ _ _ _ _) (eleven _ _ _ _ _ _ _ _ _ _ _)
+    _ _ _ _ _
+    (record {
+      sizes = c.sizes-v0.ensures;
+      cleared = c.clear_all.ensures;
+      head = c.first_body-header.ensures;
+      first = c.read_first_files-first.ensures;
+      last = c.read_last_files-last.ensures;
+      settles = c.settle.ensures;
+      answers = c.answer_of.ensures;
+    })

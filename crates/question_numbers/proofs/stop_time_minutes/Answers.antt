@@ -1,0 +1,20 @@
+-- `stop_time_minutes` meets its contract: in each arm the answer is known, and each number is its callee's. Assumes nothing.
+use mir.Syntax.{w32}
+use mir.Facts.{to_z-of_z}
+use Rattle.question_numbers.proofs.stop_time_minutes.Goals as goal
+
+pub returns-in-Times : goal.returns-in-Times
+returns-in-Times c =
+    let arrives = c.local_of-arrives in
+    let arrivesReference = c.reference_of-arrives_reference in
+    let departs = c.local_of-departs in
+    let departsReference = c.reference_of-departs_reference in
+    rw (to_z-of_z {w = w32} {z = arrives.result} (record { sfits = arrives.type-inv }))
+    (rw (to_z-of_z {w = w32} {z = arrivesReference.result} (record { sfits = arrivesReference.type-inv }))
+    (rw (to_z-of_z {w = w32} {z = departs.result} (record { sfits = departs.type-inv }))
+    (rw (to_z-of_z {w = w32} {z = departsReference.result} (record { sfits = departsReference.type-inv }))
+    (rw c.in-Times.is
+    (rw (arrives.ensures, arrivesReference.ensures, departs.ensures, departsReference.ensures))))))
+
+pub returns-in-StopTimeRefused : goal.returns-in-StopTimeRefused
+returns-in-StopTimeRefused c = rw c.in-StopTimeRefused.is

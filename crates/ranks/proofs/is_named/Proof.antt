@@ -1,7 +1,0 @@
--- `is_named` meets its contract. Assumes nothing.
-use mathlib.Core.Path.{refl}
-use Rattle.ranks.proofs.is_named.Statement.{statement}
-use Rattle.ranks.proofs.is_named.Tie as tie
-
-pub is-named-spec : {M : Type 1} → statement M
-is-named-spec = tie.close (tie.spec (λ c. refl))

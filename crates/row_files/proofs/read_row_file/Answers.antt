@@ -1,0 +1,94 @@
+-- `row_files::read_row_file` meets its contract: a first line and the rows after it make a file. Assumes nothing.
+use Prim.Native.Nat.{ℕ, ◌<◌}
+use mathlib.Core.Path.{◌≡◌, refl, ap}
+use mathlib.Core.List.{List}
+use native.Mathlib.Omega.{arith}
+use lib.ListN.{length, drop}
+use Rattle.iff.specs.Lines.{Line, lines}
+use Rattle.iff.specs.Refusals.{fine}
+use Rattle.iff.specs.declared.File.{File}
+use Rattle.iff.specs.declared.File.TheVariants.{Rows}
+use Rattle.iff_rules.specs.Rows.{Context}
+use Rattle.references.specs.Agree.{StationKeys}
+use Rattle.reading.specs.Reading.{begin_test}
+use Rattle.heads.proofs.FileLaws.{some_lines, absent, passed, first_refused, rows_refused, rows_accepted, flag_fits}
+use Rattle.file_rows.proofs.WholeLaws.{plain_begun, begun_first}
+use Rattle.row_files.proofs.read_row_file.Goals as goal
+
+-- the file, and what agrees with the tables that its rows name
+abbrev file : goal.Start → File
+file s = Rows s.args.file
+
+abbrev agrees : goal.Start → Context → Type 0
+agrees s k = StationKeys k s.args.countries.now s.args.zones.now
+
+-- where the first line was split from the others
+abbrev from : goal.After-read_rows → ℕ
+from c = c.before.before.before.from.given.0.0
+
+abbrev others : goal.After-read_rows → List Line
+others c = lines (drop (from c) (begin c).args.text.now)
+
+pub returns-then-text-eq0 : goal.returns-then-text-eq0
+returns-then-text-eq0 c =
+    rw c.in-Fine.is
+    (absent (file c.before.before.before.before.before.before.before.before) c.args.form (agrees c.before.before.before.before.before.before.before.before) c.args.header.now c.args.text.now c.args.t.now c.if-text-eq0.true
+    (c.requires (ap fine c.in-Fine.is)))
+
+pub begin_file-requires : goal.begin_file-requires
+begin_file-requires c =
+    let more : 0 < length c.args.text.now = omega (arith, c.if-text-eq0.false) in
+    (more, c.requires (ap fine c.in-Fine.is))
+
+pub returns-in-Fault : goal.returns-in-Fault
+returns-in-Fault c =
+    rw c.in-Fault.is
+    (passed (file c) c.args.form (agrees c) c.args.header.now c.args.text.now c.args.t.now _ _ _ refl)
+
+pub returns-in-Broken : goal.returns-in-Broken
+returns-in-Broken c =
+    let more : 0 < length c.args.text.now = omega (arith, c.if-text-eq0.false) in
+    rw c.in-Fine.is
+    (first_refused (file c.before.before.before.before.before.before.before.before.before.before.before.before.before.before.before) c.args.form (agrees c.before.before.before.before.before.before.before.before.before.before.before.before.before.before.before) c.args.header.now c.args.text.now c.args.t.now
+    (drop 1 (lines c.args.text.now)) (some_lines c.args.text.now more) _ c.begin_file.ensures.test _ _
+    (ap begin_test c.in-Broken.is) c.begin_file.ensures.kept)
+
+pub read_rows-requires : goal.read_rows-requires
+read_rows-requires c =
+    plain_begun c.args.file c.args.text.now _ _ (c.begin_file.ensures.rest _ c.in-Rest.is)
+
+pub set_rises-requires : goal.set_rises-requires
+set_rises-requires c =
+    let b = c.begin_file.ensures in
+    let split = b.rest _ c.in-Rest.is in
+    flag_fits (file c.before.before.before.before.before.before.before.before.before.before.before.before.before.before.before.before.before.before.before.before.before.before.before) c.args.form (agrees c.before.before.before.before.before.before.before.before.before.before.before.before.before.before.before.before.before.before.before.before.before.before.before) c.args.header.now c.args.text.now c.args.t.now (others c) split.all _ b.test
+    (ap begin_test c.in-Rest.is) _ _ _ _ _ c.read_rows.ensures b.kept _ _ c.in-AllRead.is
+    refl
+    (begun_first c.args.file _ _ _ split.begun) refl
+
+pub returns-in-Stopped : goal.returns-in-Stopped
+returns-in-Stopped c =
+    let b = c.begin_file.ensures in
+    let split = b.rest _ c.in-Rest.is in
+    rw c.in-Fine.is
+    (rows_refused (file c.before.before.before.before.before.before.before.before.before.before.before.before.before.before.before.before.before.before.before.before.before.before) c.args.form (agrees c.before.before.before.before.before.before.before.before.before.before.before.before.before.before.before.before.before.before.before.before.before.before) c.args.header.now c.args.text.now c.args.t.now (others c) split.all _ b.test
+    (ap begin_test c.in-Rest.is) _ _ _ _ _ c.read_rows.ensures b.kept _ _ c.in-Stopped.is)
+
+pub returns-in-AllRead : goal.returns-in-AllRead
+returns-in-AllRead c =
+    let b = c.begin_file.ensures in
+    let split = b.rest _ c.in-Rest.is in
+    rw c.in-Fine.is
+    (rows_accepted (file c.before.before.before.before.before.before.before.before.before.before.before.before.before.before.before.before.before.before.before.before.before.before.before.before.before.before) c.args.form (agrees c.before.before.before.before.before.before.before.before.before.before.before.before.before.before.before.before.before.before.before.before.before.before.before.before.before.before) c.args.header.now c.args.text.now c.args.t.now (others c.before.before.before.before.before.before.before.before.before) split.all _ b.test
+    (ap begin_test c.in-Rest.is) _ _ _ _ _ c.read_rows.ensures b.kept _ _
+    c.in-AllRead.is c.set_rises.ensures
+    (begun_first c.args.file _ _ _ split.begun) refl)
+
+pub shape_of-t-in-Broken : goal.shape_of-t-in-Broken
+shape_of-t-in-Broken c = (returns-in-Broken c).kept
+
+pub shape_of-t-in-Stopped : goal.shape_of-t-in-Stopped
+shape_of-t-in-Stopped c = (returns-in-Stopped c).kept
+
+pub shape_of-t-in-AllRead : goal.shape_of-t-in-AllRead
+shape_of-t-in-AllRead c = (returns-in-AllRead c).kept

@@ -1,0 +1,26 @@
+-- `lengths` meets its contract: the tests of the files, in their order. Assumes nothing.
+use Prim.Native.Nat.{ℕ}
+use Rattle.iff.specs.Files.{PerFile, of, eleven}
+use Rattle.iff.specs.declared.Verdict.TheVariants.{Fine}
+use Rattle.size_tests.specs.Lengths.{length_within}
+use Rattle.sizes.proofs.SizeLaws.{in_order_lem}
+use Rattle.sizes.proofs.lengths.Goals as goal
+
+pub returns : goal.returns
+returns c =
+    let a = c.args in
+    let L : PerFile ℕ =
+    eleven a.n-delivery a.n-company a.n-country a.n-trnsmode a.n-timezone a.n-stations a.n-footnote a.n-timetbls
+    a.n-changes a.n-xfootnote a.n-xchanges in
+    in_order_lem (λ f. length_within a.most f (of L f)) Fine
+    c.length_test-v1.ensures
+    c.length_test-v2.ensures
+    c.length_test-v3.ensures
+    c.length_test-v4.ensures
+    c.length_test-v5.ensures
+    c.length_test-v6.ensures
+    c.length_test-v7.ensures
+    c.length_test-v8.ensures
+    c.length_test-v9.ensures
+    c.length_test-v10.ensures
+    c.length_test.ensures

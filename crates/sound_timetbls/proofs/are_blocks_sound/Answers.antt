@@ -1,0 +1,122 @@
+-- `are_blocks_sound` meets its contract: what is left of the blocks is the whole, and the services before them are in the index, while that has not
+-- enough. Assumes nothing.
+use Prim.Native.Nat.{◌-◌, ◌≤◌, ◌<◌}
+use mathlib.Core.Path.{◌≡◌, refl, ap, sym, ◌∙◌}
+use mathlib.Core.Bool.{true}
+use native.Mathlib.Omega.{arith}
+use borrow.Author.Tests.{eq-eqb, ne_eqb}
+use lib.Dec.{eqb}
+use Rattle.iff.specs.Bytes.{hash}
+use Rattle.iff.specs.Tables.{is_hash_row, row_at, row_width}
+use Rattle.iff.specs.declared.File.TheVariants.{Timetbls}
+use Rattle.tables.proofs.Rows.{row_in_table}
+use Rattle.walks.proofs.TableLaws.{inside}
+use Rattle.sound_row_walks.specs.Walk.{used_in}
+use Rattle.sound_row_walks.proofs.UsedLaws.{room_ends, rows_end, row_used}
+use Rattle.sound_blocks.proofs.BlockLaws.{rises}
+use Rattle.sound_timetbls.proofs.ServiceLaws.{Going, going_first, all_gone, going_last, row_astray, block_unsound, service_at, service_came, going_on}
+use Rattle.sound_timetbls.proofs.are_blocks_sound.Goals as goal
+
+-- a row whose first word is not 0 is in use, and begins a block where that is a `#`
+in_use_lem : (u : goal.Else-tag-eq0) → u.loop-i.i < used_in u.args.t.now
+in_use_lem u =
+    row_used u.args.t.now u.loop-i.i u.loop-i.invariant.left.high u.loop-i-test.true _ u.word_at-tag.ensures
+    u.if-tag-eq0.false
+
+is-head : (h : goal.Else-tag-ne-HASH)
+    → is_hash_row (row_at (row_width Timetbls) h.args.t.now h.loop-i.i) ≡ true
+is-head h = sym (ap (λ k. eqb k hash) h.word_at-tag.ensures) ∙ eq-eqb _ hash h.if-tag-ne-HASH.false
+
+pub loop-i-init : goal.loop-i-init
+loop-i-init c =
+    let a = c.args in
+    going_first _ _ _ _ _ a.t.now _ c.requires.0 (inside Timetbls a.t.now _ refl) c.requires.1 a.places.now _ c.no_keys-run.ensures
+
+pub word_at-tag-requires : goal.word_at-tag-requires
+word_at-tag-requires c = (omega arith, row_in_table (row_width Timetbls) c.loop-i.i _ c.loop-i-test.true)
+
+-- the rows in use end at a row whose first word is 0, or with the room
+ends-here : (z : goal.Then-tag-eq0) → used_in z.args.t.now ≤ z.loop-i.i
+ends-here z =
+    rows_end z.args.t.now z.loop-i.i z.loop-i.invariant.left.high z.loop-i-test.true _ z.word_at-tag.ensures z.if-tag-eq0.true
+
+ends-with-room : (x : goal.After-loop-i) → used_in x.args.t.now ≤ x.loop-i.i
+ends-with-room x =
+    room_ends x.args.t.now x.loop-i.i x.loop-i.invariant.left.high x.loop-i-test.false
+
+pub tell_services-requires : goal.tell_services-requires
+tell_services-requires c =
+    let a = c.args in
+    all_gone _ _ _ _ _ a.t.now _ a.places.now c.loop-i.done c.loop-i.run c.loop-i.i c.loop-i.places c.loop-i.invariant (ends-here c)
+    c.requires.1
+
+pub returns-then-tag-eq0 : goal.returns-then-tag-eq0
+returns-then-tag-eq0 c =
+    let a = c.args in (
+      going_last _ _ _ _ _ a.t.now _ a.places.now c.loop-i.done c.loop-i.run c.loop-i.i c.loop-i.places c.loop-i.invariant
+          (ends-here c) _ _ c.tell_services.ensures.0,
+      c.tell_services.ensures.1 ∙ c.loop-i.invariant.wide,
+    )
+
+pub returns-then-tag-ne-HASH : goal.returns-then-tag-ne-HASH
+returns-then-tag-ne-HASH c =
+    let a = c.args in (
+      row_astray _ _ _ _ _ a.t.now _ a.places.now c.loop-i.done c.loop-i.run c.loop-i.i c.loop-i.places c.loop-i.invariant (in_use_lem c)
+          (sym (ap (λ k. eqb k hash) c.word_at-tag.ensures) ∙ ne_eqb _ hash c.if-tag-ne-HASH.true),
+      c.loop-i.invariant.wide,
+    )
+
+pub test_block-requires : goal.test_block-requires
+test_block-requires c =
+    record { some = in_use_lem c; inside = inside Timetbls c.args.t.now _ refl }
+
+pub returns-in_default : goal.returns-in_default
+returns-in_default c =
+    let a = c.args in (
+      block_unsound _ _ _ _ _ a.t.now _ a.places.now c.loop-i.done c.loop-i.run c.loop-i.i c.loop-i.places c.loop-i.invariant (in_use_lem c.before)
+          (is-head c.before.before.before) _ c.test_block.ensures c.in_default.is,
+      c.loop-i.invariant.wide,
+    )
+
+pub index_service-requires : goal.index_service-requires
+index_service-requires c =
+    let a = c.args in
+    service_at _ _ _ _ _ a.t.now _ a.places.now c.loop-i.done c.loop-i.run c.loop-i.i c.loop-i.places c.loop-i.invariant (in_use_lem c.before)
+    c.requires.1
+
+pub returns-in_default-index_service : goal.returns-in_default-index_service
+returns-in_default-index_service c =
+    let a = c.args in
+    service_came _ _ _ _ _ a.t.now _ a.places.now c.loop-i.done c.loop-i.run c.loop-i.i c.loop-i.places c.loop-i.invariant (in_use_lem c.before)
+    (is-head c.before.before.before.before.before.before.before.before.before.before) _ c.test_block.ensures _ c.in-Sound.is _ _ c.index_service.ensures c.in_default-index_service.is
+
+pub overflow_add-done : goal.overflow_add-done
+overflow_add-done c =
+    omega (arith, c.loop-i.invariant.few)
+
+pub loop-i-smaller : goal.loop-i-smaller
+loop-i-smaller c =
+    let a = c.args in
+    let more = rises _ _ _ _ _ a.t.now _ c.loop-i.i c.loop-i.invariant.left (in_use_lem c.before) (is-head c.before.before.before.before.before.before.before.before.before.before.before) _ c.test_block.ensures _
+    c.in-Sound.is in
+    omega (arith, more, c.loop-i-test.taken)
+
+pub loop-i-preserved : goal.loop-i-preserved
+loop-i-preserved c =
+    let a = c.args in
+    going_on _ _ _ _ _ a.t.now _ a.places.now c.loop-i.done c.loop-i.run c.loop-i.i c.loop-i.places c.loop-i.invariant (in_use_lem c.before)
+    (is-head c.before.before.before.before.before.before.before.before.before.before.before) _ c.test_block.ensures _ c.in-Sound.is _ _ c.index_service.ensures _ c.in-Goes.is
+
+pub tell_services-requires-2 : goal.tell_services-requires-2
+tell_services-requires-2 c =
+    let a = c.args in
+    all_gone _ _ _ _ _ a.t.now _ a.places.now c.loop-i.done c.loop-i.run c.loop-i.i c.loop-i.places c.loop-i.invariant (ends-with-room c)
+    c.requires.1
+
+pub returns : goal.returns
+returns c =
+    let a = c.args in (
+      going_last _ _ _ _ _ a.t.now _ a.places.now c.loop-i.done c.loop-i.run c.loop-i.i c.loop-i.places c.loop-i.invariant
+          (ends-with-room c) _ _ c.tell_services-2.ensures.0,
+      c.tell_services-2.ensures.1 ∙ c.loop-i.invariant.wide,
+    )

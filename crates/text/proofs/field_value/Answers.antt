@@ -1,0 +1,21 @@
+-- `text::field_value` meets its contract. The loop's invariant: the value so far is below 256 to the bytes read, and the rest counted behind it is the whole. Assumes nothing.
+use Prim.Native.Nat.{◌-◌}
+use native.Mathlib.Omega.{arith}
+use borrow.Author.Rules.{rules}
+use Rattle.text.proofs.ValueLaws.{Valued, valued_end, valued_next, next_fits}
+use Rattle.text.proofs.field_value.Goals as goal
+
+pub overflow_mul-acc : goal.overflow_mul-acc
+overflow_mul-acc c =
+    omega (arith, next_fits c.loop-i.i c.args.base c.loop-i.acc 0 (search rules) (search rules) c.loop-i.invariant.1 (omega arith))
+
+pub overflow_add-acc : goal.overflow_add-acc
+overflow_add-acc c = record { fits = next_fits _ _ _ _ (search rules) c.byte_value.ensures.1 c.loop-i.invariant.1 (omega arith) }
+
+pub loop-i-preserved : goal.loop-i-preserved
+loop-i-preserved c =
+    valued_next _ _ _ _ _ _ (search rules) c.byte_value.ensures.1 c.byte_value.ensures.0 (search rules)
+    c.loop-i.invariant
+
+pub returns : goal.returns
+returns c = valued_end _ _ _ _ _ c.loop-i-test.false c.loop-i.invariant

@@ -1,0 +1,17 @@
+-- `timetbls::read_blocks` meets its contract: a stray line is the first fault, or the blocks say all. Assumes nothing.
+use Rattle.marks.proofs.MarkLaws.{none_marked}
+use Rattle.block_repeats.proofs.ReadLaws.{blocks_ready, read_stray, read_all}
+use Rattle.timetbls.proofs.read_blocks.Goals as goal
+
+pub walk_blocks-requires : goal.walk_blocks-requires
+walk_blocks-requires c =
+    blocks_ready _ _ _ c.requires _ c.stray_test.ensures c.in-Passes.is _ none_marked
+
+pub returns-in-Fails : goal.returns-in-Fails
+returns-in-Fails c =
+    read_stray _ _ _ _ _ _ _ _ _ c.stray_test.ensures _ c.in-Fails.is
+
+pub returns-in-Passes : goal.returns-in-Passes
+returns-in-Passes c =
+    read_all _ _ _ _ _ _ _ _ _ c.stray_test.ensures c.in-Passes.is _ c.count_for_blocks-counts.ensures
+    _ _ c.walk_blocks.ensures c.walk_blocks.auto.1.1.1.1.0

@@ -1,0 +1,113 @@
+-- `timetbls::read_timetbls` meets its contract: a first line and the blocks after it make the file. Assumes nothing.
+use Prim.Native.Nat.{◌<◌}
+use mathlib.Core.Path.{refl, ap}
+use mathlib.Core.Bool.{false≢true}
+use native.Mathlib.Omega.{arith}
+use lib.ListN.{length, drop}
+use Rattle.iff.specs.Lines.{lines}
+use Rattle.iff.specs.Refusals.{fine}
+use Rattle.iff.specs.declared.File.TheVariants.{Timetbls}
+use Rattle.iff_rules.specs.Rows.{Context, flag}
+use Rattle.references.specs.Agree.{BlockKeys}
+use Rattle.reading.specs.Reading.{begin_test}
+use Rattle.heads.proofs.FileLaws.{some_lines, absent, passed, first_refused, rows_refused, rows_accepted, flag_fits}
+use Rattle.block_walks.specs.Blocks.{as_read}
+use Rattle.timetbls.proofs.CountLaws.{none_counted, still_counted}
+use Rattle.timetbls.proofs.read_timetbls.Goals as goal
+
+-- the contexts that agree with the lent tables
+abbrev Agreed : goal.Start → Context → Type 0
+Agreed s k = let a = s.args in BlockKeys k a.companies.now a.modes.now a.stations.now a.footnotes.now
+
+pub returns-then-text-eq0 : goal.returns-then-text-eq0
+returns-then-text-eq0 c =
+    let a = c.args in
+    let ready = c.requires (ap fine c.in-Fine.is) in
+    record {
+      file =
+          rw c.in-Fine.is
+          (absent Timetbls a.form (Agreed c.before.before.before.before.before.before.before.before.before.before) a.header.now a.text.now a.t.now c.if-text-eq0.true ready);
+      counted = λ z. none_counted a.t.now ready.cleared;
+    }
+
+pub begin_file-requires : goal.begin_file-requires
+begin_file-requires c =
+    let more : 0 < length c.args.text.now = omega (arith, c.if-text-eq0.false) in
+    (more, c.requires (ap fine c.in-Fine.is))
+
+pub read_blocks-requires : goal.read_blocks-requires
+read_blocks-requires c =
+    let split = c.begin_file.ensures.rest _ c.in-Rest.is in
+    record { inside = split.inside; first = _; begun = split.begun }
+
+pub set_rises-requires : goal.set_rises-requires
+set_rises-requires c =
+    let a = c.args in
+    let from = c.from-1.given in
+    let split = c.begin_file.ensures.rest _ from.1 in
+    let ls = lines (drop from.0.0 a.text.now) in
+    flag_fits Timetbls a.form (Agreed c.before.before.before.before.before.before.before.before.before.before.before.before.before.before.before.before.before.before.before.before.before.before.before.before.before) a.header.now a.text.now a.t.now ls split.all _ c.begin_file.ensures.test
+    (ap begin_test from.1) _ _ _ _ _ (c.read_blocks.ensures.done _ split.begun) c.begin_file.ensures.kept
+    _ _ (ap as_read c.in-All.is) refl refl refl
+
+pub returns-in-Fault : goal.returns-in-Fault
+returns-in-Fault c =
+    let a = c.args in
+    record {
+      file = rw c.in-Fault.is (passed Timetbls a.form (Agreed c) a.header.now a.text.now a.t.now _ _ _ refl);
+      counted = λ z. absurd (false≢true z);
+    }
+
+pub returns-in-Broken : goal.returns-in-Broken
+returns-in-Broken c =
+    let a = c.args in
+    let more : 0 < length a.text.now = omega (arith, c.if-text-eq0.false) in
+    record {
+      file =
+          rw c.in-Fine.is
+          (first_refused Timetbls a.form (Agreed c.before.before.before.before.before.before.before.before.before.before.before.before.before.before.before.before.before) a.header.now a.text.now a.t.now (drop 1 (lines a.text.now))
+          (some_lines a.text.now more) _ c.begin_file.ensures.test _ _ (ap begin_test c.in-Broken.is)
+          c.begin_file.ensures.kept);
+      counted = λ z. absurd (false≢true z);
+    }
+
+pub returns-in-Refused : goal.returns-in-Refused
+returns-in-Refused c =
+    let a = c.args in
+    let from = c.from-1.given in
+    let split = c.begin_file.ensures.rest _ from.1 in
+    let ls = lines (drop from.0.0 a.text.now) in
+    record {
+      file =
+          rw c.in-Fine.is
+          (rows_refused Timetbls a.form (Agreed c.before.before.before.before.before.before.before.before.before.before.before.before.before.before.before.before.before.before.before.before.before.before.before.before) a.header.now a.text.now a.t.now ls split.all _ c.begin_file.ensures.test
+          (ap begin_test from.1) _ _ _ _ _ (c.read_blocks.ensures.done _ split.begun) c.begin_file.ensures.kept
+          _ _ (ap as_read c.in-Refused.is));
+      counted = λ z. absurd (false≢true z);
+    }
+
+pub returns-in-All : goal.returns-in-All
+returns-in-All c =
+    let a = c.args in
+    let from = c.from-1.given in
+    let split = c.begin_file.ensures.rest _ from.1 in
+    let ls = lines (drop from.0.0 a.text.now) in
+    let rises = c.rises-1.given in
+    let flagged = c.set_rises.ensures in
+    record {
+      file =
+          rw c.in-Fine.is
+          (rows_accepted Timetbls a.form (Agreed c.before.before.before.before.before.before.before.before.before.before.before.before.before.before.before.before.before.before.before.before.before.before.before.before.before.before.before.before) a.header.now a.text.now a.t.now ls split.all _ c.begin_file.ensures.test
+          (ap begin_test from.1) _ _ _ _ _ (c.read_blocks.ensures.done _ split.begun) c.begin_file.ensures.kept
+          _ _ (ap as_read rises.1) flagged refl refl);
+      counted = λ z. still_counted (flag rises.0.0) _ _ _ _ (c.read_blocks.ensures.counted _ _ _ rises.1) flagged;
+    }
+
+pub shape_of-t-in-Broken : goal.shape_of-t-in-Broken
+shape_of-t-in-Broken c = (returns-in-Broken c).file.auto
+
+pub shape_of-t-in-Refused : goal.shape_of-t-in-Refused
+shape_of-t-in-Refused c = (returns-in-Refused c).file.auto
+
+pub shape_of-t-in-All : goal.shape_of-t-in-All
+shape_of-t-in-All c = (returns-in-All c).file.auto
