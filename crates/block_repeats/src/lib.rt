@@ -2,7 +2,7 @@
 ghost use Rattle.std.specs.Prelude.{◌≡◌, ◌≤◌, length};
 ghost use Rattle.iff.specs.declared.File.TheVariants.{Timetbls};
 ghost use Rattle.iff.specs.Tables.{row_width};
-ghost use Rattle.block_walks.specs.Blocks.{BlocksReady, first_alone_lem, BlocksAdded};
+ghost use Rattle.block_walks.specs.Blocks.{BlocksReady, first_alone, BlocksAdded};
 
 use block_walks::BlocksPut;
 

@@ -17,7 +17,7 @@ ghost use Rattle.store.specs.Found.{Stored, Inside, BlocksTold};
 ghost use Rattle.zone_times.specs.Clocks.{FewMinutes};
 ghost use Rattle.needed_times.specs.Needed.{rows_found};
 ghost use Rattle.changing.specs.Agree.{ZoneRows, NeedRows, RowsOf, ZonesReady, NeedReady, Ready};
-ghost use Rattle.changing.specs.Sides.{PartFor, SideFor, side_of, stop_found, hurdle_of, run_hurdle, stop_hurdle, later_hurdle, is_same_lem};
+ghost use Rattle.changing.specs.Sides.{PartFor, SideFor, side_of, stop_found, hurdle_of, run_hurdle, stop_hurdle, later_hurdle, is_same};
 ghost use Rattle.changing.specs.Sides.{arrival_from, departure_to, verdict_by, judged_on, later_change, asked_from, asked_to};
 
 use iff::{DayOf, Reason, Test, words};

@@ -53,7 +53,7 @@ abbrev pub Held : ℤ → ℤ
 Held z = to_z w32 (of_z w32 z)
 
 pub held : (z : ℤ) → mag z < 2 ^ 31 → Held z ≡ z
-held z h = to_z-of_z (record { sfits = h })
+held z h = to_z-of_z {w = w32} (record { sfits = h })
 
 pub held_nat : (n : ℕ) → n < 2 ^ 31 → to_z w32 n ≡ pos n
 held_nat n h = rw (lt-ltb n (2 ^ 31) h)

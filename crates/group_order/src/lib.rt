@@ -1,6 +1,6 @@
 // Document 01's Order: what may follow what in a group, and where a group may end.
 ghost use Rattle.std.specs.Prelude.{◌≡◌};
-ghost use Rattle.iff_rules.specs.Order.{may_follow, in_group_lem, one_vector, is_period, group_moves, may_end, ends_opened};
+ghost use Rattle.iff_rules.specs.Order.{may_follow, in_group, one_vector, is_period, group_moves, may_end, ends_opened};
 
 use iff::{GroupFile, GroupStand};
 

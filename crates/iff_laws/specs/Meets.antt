@@ -26,7 +26,7 @@ pub record FirstLineMeets (header : List ℕ) (l : Line) : Type 0 where
   -- 7: "A first line not starting `@` .. is 7 at once."
   pub begins : letter l ≡ at
   -- 4: its length, commas, bytes, CR LF
-  pub laid_out_lem : laid l first_fields ≡ true
+  pub laid_out : laid l first_fields ≡ true
   -- 6: "first line differs from DELIVERY's"
   pub as_delivery : l.body ≡ header
   -- 5: "Fields not code, free text or unread are numbers, all digits."
@@ -45,7 +45,7 @@ module _ (D : PerFile (List Row)) (f : File) (l : Line) where
 -- A LINE OF A FILE WITHOUT RECORD LETTERS, after some lines: "every later line is a row"
 pub record RowMeets (D : PerFile (List Row)) (f : RowFile) (earlier : List Line) (l : Line) : Type 0 where
   -- 4
-  pub laid_out_lem : laid l (its_fields D (Rows f) l) ≡ true
+  pub laid_out : laid l (its_fields D (Rows f) l) ≡ true
   -- 5: digits and codes, then what they must be ("At most 64 modes" counts the lines before)
   pub legible : readable l.body (its_fields D (Rows f) l) ≡ true
   pub valued : row_meaning f (length earlier) (its_row D (Rows f) l) ≡ true
@@ -60,9 +60,9 @@ pub record GroupLineMeets (D : PerFile (List Row)) (f : GroupFile) (seen : List 
   -- 4: "unknown first byte"
   pub lettered : known_in_group f (letter l) ≡ true
   -- 7: "record not allowed here"
-  pub in_order_lem : may_follow f (group_stand earlier) (group_tag f (letter l)) ≡ true
+  pub in_order : may_follow f (group_stand earlier) (group_tag f (letter l)) ≡ true
   -- 4
-  pub laid_out_lem : laid l (its_fields D (Groups f) l) ≡ true
+  pub laid_out : laid l (its_fields D (Groups f) l) ≡ true
   -- 5
   pub legible : readable l.body (its_fields D (Groups f) l) ≡ true
   pub valued : group_meaning f (its_row D (Groups f) l) ≡ true
@@ -77,9 +77,9 @@ pub record BlockLineMeets (D : PerFile (List Row)) (seen : List ℕ) (st : InBlo
   -- 4: "unknown first byte"
   pub lettered : known_in_block (letter l) ≡ true
   -- 7: "record not allowed here"
-  pub in_order_lem : is_goes (goes st.stand (letter l)) ≡ true
+  pub in_order : is_goes (goes st.stand (letter l)) ≡ true
   -- 4
-  pub laid_out_lem : laid l (its_fields D Timetbls l) ≡ true
+  pub laid_out : laid l (its_fields D Timetbls l) ≡ true
   -- 5 ("at most 998 stops" counts the stops before)
   pub legible : readable l.body (its_fields D Timetbls l) ≡ true
   pub valued : block_meaning st.stops (its_row D Timetbls l) ≡ true

@@ -7,7 +7,7 @@ ghost use Rattle.iff.specs.Lists.{all};
 ghost use Rattle.iff.specs.Columns.{record_fields, picture, fits, laid, columns};
 ghost use Rattle.iff.specs.Values.{readable, words, word_count, field_right, field_words, is_wildcard, bits, vector_words, vector_width};
 ghost use Rattle.iff.specs.Tables.{padded};
-ghost use Rattle.records.specs.Layouts.{line_of, fields, field_at, word_by, right_by_lem, right_in, picture_in, readable_in, in_order_lem, layout_test};
+ghost use Rattle.records.specs.Layouts.{line_of, fields, field_at, word_by, right_by, right_in, picture_in, readable_in, in_order, layout_test};
 ghost use Rattle.records.specs.Facts.{Legible, LineRead, Inside, Entries, SpansFit};
 
 use records::Spans;

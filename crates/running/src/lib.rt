@@ -5,7 +5,7 @@ ghost use Rattle.iff.specs.Tables.{Row, row_width, rows_in};
 ghost use Rattle.iff.specs.declared.GroupFile.TheVariants.{Footnote};
 ghost use Rattle.iff.specs.declared.File.TheVariants.{Delivery, Groups, Timetbls};
 ghost use Rattle.iff_desk.specs.Store.{service_rows, day_on};
-ghost use Rattle.iff_desk.specs.Running.{runs_on_lem, asked, runs, running_in};
+ghost use Rattle.iff_desk.specs.Running.{runs_on, asked, runs, running_in};
 ghost use Rattle.store.specs.Found.{Stored, rows_of, Inside};
 
 use iff::{Reason, Test};

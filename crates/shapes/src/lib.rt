@@ -4,7 +4,7 @@
 ghost use Rattle.std.specs.Prelude.{◌≡◌, suc, ◌-◌, ◌≤◌, ◌<◌, length, drop};
 ghost use Rattle.std.proofs.Math.Seq.{slice};
 ghost use Rattle.iff.specs.Columns.{record_of, record_fields};
-ghost use Rattle.iff.specs.Values.{words_right_lem, word_count};
+ghost use Rattle.iff.specs.Values.{words_right, word_count};
 ghost use Rattle.iff_desk.specs.Sound.{shaped};
 ghost use Rattle.records.specs.Layouts.{fields, field_at, byte_of};
 ghost use Rattle.field_words.specs.Fits.{word_fits};

@@ -3,7 +3,7 @@ ghost use Rattle.std.specs.Prelude.{◌≡◌, ◌*◌, ◌<◌, ◌≤◌, leng
 ghost use Rattle.iff.specs.Tables.{row_width};
 ghost use Rattle.iff.specs.declared.File.TheVariants.{Groups};
 ghost use Rattle.iff_desk.specs.Sound.{sound_group};
-ghost use Rattle.sound_group_rows.specs.Told.{Told, group_at_lem};
+ghost use Rattle.sound_group_rows.specs.Told.{Told, group_at};
 
 use iff::{Form, GroupFile, GroupStand};
 use references::GroupCounts;

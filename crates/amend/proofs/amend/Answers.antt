@@ -16,18 +16,16 @@ tables s =
     eleven a.delivery.now a.company.now a.country.now a.trnsmode.now a.timezone.now a.stations.now a.footnote.now
     a.timetbls.now a.changes.now a.xfootnote.now a.xchanges.now
 
--- they are sound
-are-sound : (c : goal.Else-not-is_sound_by) → sound (tables c.before.before.before.before.before.before.before.before.before.before.before.before.before.before.before.before) ≡ true
-are-sound c = sym c.is_sound_by.ensures ∙ not-false _ c.if-not-is_sound_by.false-raw
-
 pub returns-then-not-is_sound_by : goal.returns-then-not-is_sound_by
 returns-then-not-is_sound_by c =
     not_sound (tables c.before.before.before.before.before.before.before.before.before.before.before.before.before.before.before.before) c.args.service c.args.block.now (sym c.is_sound_by.ensures ∙ not-true _ c.if-not-is_sound_by.true-raw)
 
 pub amend_there-requires : goal.amend_there-requires
 amend_there-requires c =
-    sound_there (tables c.before.before.before.before.before.before.before.before.before.before.before.before.before.before.before.before.before.before) c.args.service c.args.block.now (are-sound c)
+    let are-sound : sound (tables c.before.before.before.before.before.before.before.before.before.before.before.before.before.before.before.before.before.before) ≡ true = sym c.is_sound_by.ensures ∙ not-false _ c.if-not-is_sound_by.false-raw in
+    sound_there (tables c.before.before.before.before.before.before.before.before.before.before.before.before.before.before.before.before.before.before) c.args.service c.args.block.now (are-sound)
 
 pub returns : goal.returns
 returns c =
-    amended_sound (tables c.before.before.before.before.before.before.before.before.before.before.before.before.before.before.before.before.before.before.before.before.before) c.args.service c.args.block.now (are-sound c) _ _ c.amend_there.ensures
+    let are-sound : sound (tables c.before.before.before.before.before.before.before.before.before.before.before.before.before.before.before.before.before.before.before.before.before) ≡ true = sym c.is_sound_by.ensures ∙ not-false _ c.if-not-is_sound_by.false-raw in
+    amended_sound (tables c.before.before.before.before.before.before.before.before.before.before.before.before.before.before.before.before.before.before.before.before.before) c.args.service c.args.block.now (are-sound) _ _ c.amend_there.ensures

@@ -46,6 +46,6 @@ pub returns-in-63 : goal.returns-in-63
 returns-in-63 c form = c.number-in-63.ensures ∙ ap number_of c.columns_of-in-63.ensures ∙ head_platform form _ _ c.first_byte.ensures c.in-63.is
 
 pub returns-in_default : goal.returns-in_default
-returns-in_default c form = let n = c.in_default.rest in
+returns-in_default c form = let n = c.in_default.in_default-own.rest in
     c.code-in_default.ensures ∙ ap code_of c.columns_of-in_default.ensures ∙ head_station form _ _ c.first_byte.ensures
     n.0.0.0.0.0.1 n.0.0.0.0.1 n.0.0.0.1 n.0.0.1 n.0.1 n.1

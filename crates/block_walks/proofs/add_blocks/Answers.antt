@@ -5,10 +5,6 @@ use lib.ListN.{length}
 use Rattle.block_walks.proofs.AddLaws.{Adding, adding_start, addable, adding_faulty, adding_next, adding_end}
 use Rattle.block_walks.proofs.add_blocks.Goals as goal
 
--- the marks at the loop are as many as they were
-marks-kept : (l : goal.At-loop-at) → length l.loop-at.marks ≡ length l.args.marks.now
-marks-kept l = l.loop-at.invariant.holding.marked.wide ∙ sym l.requires.holding.marked.wide
-
 pub loop-at-init : goal.loop-at-init
 loop-at-init c = adding_start _ _ _ _ _ _ _ _ _ _ _ c.requires _ c.no_keys-run.ensures
 
@@ -40,7 +36,10 @@ returns c =
 -- there are as many marks as there were
 pub shape_of-marks-in-Faulty : goal.shape_of-marks-in-Faulty
 shape_of-marks-in-Faulty c =
-    c.add_block.auto.1.1.1.0 ∙ marks-kept c.before.before.before.before.before.before.before.before.before.before.before
+    let marks-kept : length c.loop-at.marks ≡ length c.args.marks.now = c.loop-at.invariant.holding.marked.wide ∙ sym c.requires.holding.marked.wide in
+    c.add_block.auto.1.1.1.0 ∙ marks-kept
 
 pub shape_of-marks : goal.shape_of-marks
-shape_of-marks c = marks-kept c.before
+shape_of-marks c =
+    let marks-kept : length c.loop-at.marks ≡ length c.args.marks.now = c.loop-at.invariant.holding.marked.wide ∙ sym c.requires.holding.marked.wide in
+    marks-kept

@@ -6,18 +6,20 @@ use lib.ListN.{length}
 use Rattle.blocks.proofs.WholeLaws.{empty_checked, held_checked, lines_read, last_checked}
 use Rattle.blocks.proofs.check_block.Goals as goal
 
--- the block is not empty
-some : (c : goal.Else-block-eq0) → 0 < length c.args.block.now
-some c = omega arith
-
 pub returns-then-block-eq0 : goal.returns-then-block-eq0
 returns-then-block-eq0 c = empty_checked _ _ _ _ _ _ _ _ c.if-block-eq0.true
 
 pub last_tests-requires : goal.last_tests-requires
-last_tests-requires c = lines_read _ _ _ _ _ _ _ _ (some c.before) _ _ (sym c.read_stops.ensures ∙ c.in-Through.is)
+last_tests-requires c =
+    let some : 0 < length c.args.block.now = omega arith in
+    lines_read _ _ _ _ _ _ _ _ (some) _ _ (sym c.read_stops.ensures ∙ c.in-Through.is)
 
 pub returns-in-Held : goal.returns-in-Held
-returns-in-Held c = held_checked _ _ _ _ _ _ _ _ (some c.before) _ _ (sym c.read_stops.ensures ∙ c.in-Held.is)
+returns-in-Held c =
+    let some : 0 < length c.args.block.now = omega arith in
+    held_checked _ _ _ _ _ _ _ _ (some) _ _ (sym c.read_stops.ensures ∙ c.in-Held.is)
 
 pub returns-in-Through : goal.returns-in-Through
-returns-in-Through c = last_checked _ _ _ _ _ _ _ _ (some c.before) _ _ (sym c.read_stops.ensures ∙ c.in-Through.is) _ c.last_tests.ensures
+returns-in-Through c =
+    let some : 0 < length c.args.block.now = omega arith in
+    last_checked _ _ _ _ _ _ _ _ (some) _ _ (sym c.read_stops.ensures ∙ c.in-Through.is) _ c.last_tests.ensures

@@ -8,10 +8,6 @@ use Rattle.iff_desk.specs.Changing.{change}
 use Rattle.desk.proofs.ReadyLaws.{leant, own_rows}
 use Rattle.desk.proofs.change.Goals as goal
 
--- the tables are sound
-are-sound : (c : goal.Else-not-is_sound_by) → sound (eleven c.args.delivery.now c.args.company.now c.args.country.now c.args.trnsmode.now c.args.timezone.now c.args.stations.now c.args.footnote.now c.args.timetbls.now c.args.changes.now c.args.xfootnote.now c.args.xchanges.now) ≡ true
-are-sound c = sym c.is_sound_by.ensures ∙ not-false _ c.if-not-is_sound_by.false-raw
-
 pub returns-then-not-is_sound_by : goal.returns-then-not-is_sound_by
 unfolding change
 returns-then-not-is_sound_by c =
@@ -20,13 +16,15 @@ returns-then-not-is_sound_by c =
 
 pub change_there-requires : goal.change_there-requires
 change_there-requires c =
+    let are-sound : sound (eleven c.args.delivery.now c.args.company.now c.args.country.now c.args.trnsmode.now c.args.timezone.now c.args.stations.now c.args.footnote.now c.args.timetbls.now c.args.changes.now c.args.xfootnote.now c.args.xchanges.now) ≡ true = sym c.is_sound_by.ensures ∙ not-false _ c.if-not-is_sound_by.false-raw in
     let a = c.args in
     let T = eleven a.delivery.now a.company.now a.country.now a.trnsmode.now a.timezone.now a.stations.now a.footnote.now a.timetbls.now a.changes.now a.xfootnote.now a.xchanges.now in
-    leant T (are-sound c)
+    leant T (are-sound)
 
 pub returns : goal.returns
 unfolding change
 returns c =
+    let are-sound : sound (eleven c.args.delivery.now c.args.company.now c.args.country.now c.args.trnsmode.now c.args.timezone.now c.args.stations.now c.args.footnote.now c.args.timetbls.now c.args.changes.now c.args.xfootnote.now c.args.xchanges.now) ≡ true = sym c.is_sound_by.ensures ∙ not-false _ c.if-not-is_sound_by.false-raw in
     let a = c.args in
     let T = eleven a.delivery.now a.company.now a.country.now a.trnsmode.now a.timezone.now a.stations.now a.footnote.now a.timetbls.now a.changes.now a.xfootnote.now a.xchanges.now in
-    c.change_there.ensures (rows_of_tables T) (own_rows T) ∙ rw (are-sound c)
+    c.change_there.ensures (rows_of_tables T) (own_rows T) ∙ rw (are-sound)

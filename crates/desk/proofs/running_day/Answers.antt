@@ -10,10 +10,6 @@ use Rattle.iff_desk.specs.Running.{running_day}
 use Rattle.sound_facts.proofs.SoundFacts.{once}
 use Rattle.desk.proofs.running_day.Goals as goal
 
--- the tables are sound
-are-sound : (c : goal.Else-not-is_sound_by) → sound (eleven c.args.delivery.now c.args.company.now c.args.country.now c.args.trnsmode.now c.args.timezone.now c.args.stations.now c.args.footnote.now c.args.timetbls.now c.args.changes.now c.args.xfootnote.now c.args.xchanges.now) ≡ true
-are-sound c = sym c.is_sound_by.ensures ∙ not-false _ c.if-not-is_sound_by.false-raw
-
 pub returns-then-not-is_sound_by : goal.returns-then-not-is_sound_by
 unfolding running_day
 returns-then-not-is_sound_by c =
@@ -22,14 +18,16 @@ returns-then-not-is_sound_by c =
 
 pub running_there-requires : goal.running_there-requires
 running_there-requires c =
+    let are-sound : sound (eleven c.args.delivery.now c.args.company.now c.args.country.now c.args.trnsmode.now c.args.timezone.now c.args.stations.now c.args.footnote.now c.args.timetbls.now c.args.changes.now c.args.xfootnote.now c.args.xchanges.now) ≡ true = sym c.is_sound_by.ensures ∙ not-false _ c.if-not-is_sound_by.false-raw in
     let a = c.args in
     let T = eleven a.delivery.now a.company.now a.country.now a.trnsmode.now a.timezone.now a.stations.now a.footnote.now a.timetbls.now a.changes.now a.xfootnote.now a.xchanges.now in
-    let s = are-sound c in
+    let s = are-sound in
     (once T s Delivery, once T s Timetbls, once T s (Groups Footnote))
 
 pub returns : goal.returns
 unfolding running_day
 returns c =
+    let are-sound : sound (eleven c.args.delivery.now c.args.company.now c.args.country.now c.args.trnsmode.now c.args.timezone.now c.args.stations.now c.args.footnote.now c.args.timetbls.now c.args.changes.now c.args.xfootnote.now c.args.xchanges.now) ≡ true = sym c.is_sound_by.ensures ∙ not-false _ c.if-not-is_sound_by.false-raw in
     let a = c.args in
     let T = eleven a.delivery.now a.company.now a.country.now a.trnsmode.now a.timezone.now a.stations.now a.footnote.now a.timetbls.now a.changes.now a.xfootnote.now a.xchanges.now in
-    c.running_there.ensures (rows_of_tables T) refl refl refl ∙ rw (are-sound c)
+    c.running_there.ensures (rows_of_tables T) refl refl refl ∙ rw (are-sound)

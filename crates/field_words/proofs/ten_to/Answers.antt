@@ -6,7 +6,7 @@ use Rattle.field_words.proofs.ten_to.Goals as goal
 
 pub returns-in_default : goal.returns-in_default
 returns-in_default c =
-    let e : c.args.width ≡ 8 = omega (arith, past 8 c.args.width c.in_default.rest, c.requires.few) in
+    let e : c.args.width ≡ 8 = omega (arith, past 8 c.args.width c.in_default.in_default-own.rest, c.requires.few) in
     rw e
 
 pub returns-in-0 : goal.returns-in-0

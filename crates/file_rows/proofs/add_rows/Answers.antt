@@ -20,16 +20,15 @@ add_line-requires c =
     c.args.t.now c.requires.0 _ _ _ _ _ c.loop-at.invariant.0 _ c.line_at-s.ensures
     (omega (arith, c.loop-at.invariant.0.cut.few, c.loop-at.invariant.0.inside, c.well_formed))
 
--- a line has a number
-numbered : (a : goal.After-add_line) → a.loop-at.count + 2 < 2 ^ 64
-numbered a =
-    omega (arith, a.loop-at.invariant.0.cut.few, a.loop-at.invariant.0.inside, a.loop-at-test.taken, a.well_formed)
-
 pub overflow_add-count : goal.overflow_add-count
-overflow_add-count c = let n = numbered c.before.before.before.before.before in omega (arith, n)
+overflow_add-count c =
+    let numbered : c.loop-at.count + 2 < 2 ^ 64 = omega (arith, c.loop-at.invariant.0.cut.few, c.loop-at.invariant.0.inside, c.loop-at-test.taken, c.well_formed) in
+    let n = numbered in omega (arith, n)
 
 pub line_number-requires : goal.line_number-requires
-line_number-requires c = let n = numbered c.before.before.before.before.before in omega (arith, n)
+line_number-requires c =
+    let numbered : c.loop-at.count + 2 < 2 ^ 64 = omega (arith, c.loop-at.invariant.0.cut.few, c.loop-at.invariant.0.inside, c.loop-at-test.taken, c.well_formed) in
+    let n = numbered in omega (arith, n)
 
 pub returns-in-Refused : goal.returns-in-Refused
 returns-in-Refused c =

@@ -9,27 +9,6 @@ use Rattle.first_files.proofs.read_first_files.Goals as goal
 abbrev Right : goal.Start → Type 0
 Right s = fine s.args.v ≡ true
 
-back-delivery : (c : goal.After-read_delivery-v1) → fine c.read_delivery-v1.result ≡ true → Right c.before.before.before.before.before.before.before.before.before.before.before.before.before.before.before.before.before
-back-delivery c g = delivery_back c.read_delivery-v1.ensures g
-
-back-company : (c : goal.After-read_row_file-v2) → fine c.read_row_file-v2.result ≡ true → Right c.before.before.before.before.before.before.before.before.before.before.before.before.before.before.before.before.before.before.before.before.before.before
-back-company c g = back-delivery c.before.before.before.before.before (rows_back c.read_row_file-v2.ensures g)
-
-back-named : (c : goal.After-company_test-v3) → fine c.company_test-v3.result ≡ true → Right c.before.before.before.before.before.before.before.before.before.before.before.before.before.before.before.before.before.before.before.before.before.before.before.before.before
-back-named c g = back-company c.before.before.before (back c.read_row_file-v2.result _ c.company_test-v3.ensures g)
-
-back-country : (c : goal.After-read_row_file-v4) → fine c.read_row_file-v4.result ≡ true → Right c.before.before.before.before.before.before.before.before.before.before.before.before.before.before.before.before.before.before.before.before.before.before.before.before.before.before.before
-back-country c g = back-named c.before.before (rows_back c.read_row_file-v4.ensures g)
-
-back-trnsmode : (c : goal.After-read_row_file-v5) → fine c.read_row_file-v5.result ≡ true → Right c.before.before.before.before.before.before.before.before.before.before.before.before.before.before.before.before.before.before.before.before.before.before.before.before.before.before.before.before.before.before.before
-back-trnsmode c g = back-country c.before.before.before.before (rows_back c.read_row_file-v5.ensures g)
-
-back-timezone : (c : goal.After-read_group_file-v6) → fine c.read_group_file-v6.result ≡ true → Right c.before.before.before.before.before.before.before.before.before.before.before.before.before.before.before.before.before.before.before.before.before.before.before.before.before.before.before.before.before.before.before.before.before.before.before
-back-timezone c g = back-trnsmode c.before.before.before.before (groups_back c.read_group_file-v6.ensures g)
-
-back-stations : (c : goal.After-read_row_file-v7) → fine c.read_row_file-v7.result ≡ true → Right c.before.before.before.before.before.before.before.before.before.before.before.before.before.before.before.before.before.before.before.before.before.before.before.before.before.before.before.before.before.before.before.before.before.before.before.before.before.before.before
-back-stations c g = back-timezone c.before.before.before.before (rows_back c.read_row_file-v7.ensures g)
-
 -- WHAT THE READERS ASK FOR
 pub read_delivery-v1-requires : goal.read_delivery-v1-requires
 read_delivery-v1-requires c =
@@ -37,27 +16,53 @@ read_delivery-v1-requires c =
 
 pub read_row_file-v2-requires : goal.read_row_file-v2-requires
 read_row_file-v2-requires c =
-    λ g. (c.requires (back-delivery c g)).company
+    let back-delivery : fine c.read_delivery-v1.result ≡ true → Right c.before.before.before.before.before.before.before.before.before.before.before.before.before.before.before.before.before.before.before.before.before = λ g. delivery_back c.read_delivery-v1.ensures g in
+    λ g. (c.requires (back-delivery g)).company
 
 pub read_row_file-v4-requires : goal.read_row_file-v4-requires
 read_row_file-v4-requires c =
-    λ g. (c.requires (back-named c g)).country
+    let back-delivery : fine c.read_delivery-v1.result ≡ true → Right c.before.before.before.before.before.before.before.before.before.before.before.before.before.before.before.before.before.before.before.before.before.before.before.before.before.before = λ g. delivery_back c.read_delivery-v1.ensures g in
+    let back-company : fine c.read_row_file-v2.result ≡ true → Right c.before.before.before.before.before.before.before.before.before.before.before.before.before.before.before.before.before.before.before.before.before.before.before.before.before.before = λ g. back-delivery (rows_back c.read_row_file-v2.ensures g) in
+    let back-named : fine c.company_test-v3.result ≡ true → Right c.before.before.before.before.before.before.before.before.before.before.before.before.before.before.before.before.before.before.before.before.before.before.before.before.before.before = λ g. back-company (back c.read_row_file-v2.result _ c.company_test-v3.ensures g) in
+    λ g. (c.requires (back-named g)).country
 
 pub read_row_file-v5-requires : goal.read_row_file-v5-requires
 read_row_file-v5-requires c =
-    λ g. (c.requires (back-country c g)).trnsmode
+    let back-delivery : fine c.read_delivery-v1.result ≡ true → Right c.before.before.before.before.before.before.before.before.before.before.before.before.before.before.before.before.before.before.before.before.before.before.before.before.before.before.before.before.before.before = λ g. delivery_back c.read_delivery-v1.ensures g in
+    let back-company : fine c.read_row_file-v2.result ≡ true → Right c.before.before.before.before.before.before.before.before.before.before.before.before.before.before.before.before.before.before.before.before.before.before.before.before.before.before.before.before.before.before = λ g. back-delivery (rows_back c.read_row_file-v2.ensures g) in
+    let back-named : fine c.company_test-v3.result ≡ true → Right c.before.before.before.before.before.before.before.before.before.before.before.before.before.before.before.before.before.before.before.before.before.before.before.before.before.before.before.before.before.before = λ g. back-company (back c.read_row_file-v2.result _ c.company_test-v3.ensures g) in
+    let back-country : fine c.read_row_file-v4.result ≡ true → Right c.before.before.before.before.before.before.before.before.before.before.before.before.before.before.before.before.before.before.before.before.before.before.before.before.before.before.before.before.before.before = λ g. back-named (rows_back c.read_row_file-v4.ensures g) in
+    λ g. (c.requires (back-country g)).trnsmode
 
 pub read_group_file-v6-requires : goal.read_group_file-v6-requires
 read_group_file-v6-requires c =
-    λ g. (c.requires (back-trnsmode c g)).timezone
+    let back-delivery : fine c.read_delivery-v1.result ≡ true → Right c.before.before.before.before.before.before.before.before.before.before.before.before.before.before.before.before.before.before.before.before.before.before.before.before.before.before.before.before.before.before.before.before.before.before = λ g. delivery_back c.read_delivery-v1.ensures g in
+    let back-company : fine c.read_row_file-v2.result ≡ true → Right c.before.before.before.before.before.before.before.before.before.before.before.before.before.before.before.before.before.before.before.before.before.before.before.before.before.before.before.before.before.before.before.before.before.before = λ g. back-delivery (rows_back c.read_row_file-v2.ensures g) in
+    let back-named : fine c.company_test-v3.result ≡ true → Right c.before.before.before.before.before.before.before.before.before.before.before.before.before.before.before.before.before.before.before.before.before.before.before.before.before.before.before.before.before.before.before.before.before.before = λ g. back-company (back c.read_row_file-v2.result _ c.company_test-v3.ensures g) in
+    let back-country : fine c.read_row_file-v4.result ≡ true → Right c.before.before.before.before.before.before.before.before.before.before.before.before.before.before.before.before.before.before.before.before.before.before.before.before.before.before.before.before.before.before.before.before.before.before = λ g. back-named (rows_back c.read_row_file-v4.ensures g) in
+    let back-trnsmode : fine c.read_row_file-v5.result ≡ true → Right c.before.before.before.before.before.before.before.before.before.before.before.before.before.before.before.before.before.before.before.before.before.before.before.before.before.before.before.before.before.before.before.before.before.before = λ g. back-country (rows_back c.read_row_file-v5.ensures g) in
+    λ g. (c.requires (back-trnsmode g)).timezone
 
 pub read_row_file-v7-requires : goal.read_row_file-v7-requires
 read_row_file-v7-requires c =
-    λ g. (c.requires (back-timezone c g)).stations
+    let back-delivery : fine c.read_delivery-v1.result ≡ true → Right c.before.before.before.before.before.before.before.before.before.before.before.before.before.before.before.before.before.before.before.before.before.before.before.before.before.before.before.before.before.before.before.before.before.before.before.before.before.before = λ g. delivery_back c.read_delivery-v1.ensures g in
+    let back-company : fine c.read_row_file-v2.result ≡ true → Right c.before.before.before.before.before.before.before.before.before.before.before.before.before.before.before.before.before.before.before.before.before.before.before.before.before.before.before.before.before.before.before.before.before.before.before.before.before.before = λ g. back-delivery (rows_back c.read_row_file-v2.ensures g) in
+    let back-named : fine c.company_test-v3.result ≡ true → Right c.before.before.before.before.before.before.before.before.before.before.before.before.before.before.before.before.before.before.before.before.before.before.before.before.before.before.before.before.before.before.before.before.before.before.before.before.before.before = λ g. back-company (back c.read_row_file-v2.result _ c.company_test-v3.ensures g) in
+    let back-country : fine c.read_row_file-v4.result ≡ true → Right c.before.before.before.before.before.before.before.before.before.before.before.before.before.before.before.before.before.before.before.before.before.before.before.before.before.before.before.before.before.before.before.before.before.before.before.before.before.before = λ g. back-named (rows_back c.read_row_file-v4.ensures g) in
+    let back-trnsmode : fine c.read_row_file-v5.result ≡ true → Right c.before.before.before.before.before.before.before.before.before.before.before.before.before.before.before.before.before.before.before.before.before.before.before.before.before.before.before.before.before.before.before.before.before.before.before.before.before.before = λ g. back-country (rows_back c.read_row_file-v5.ensures g) in
+    let back-timezone : fine c.read_group_file-v6.result ≡ true → Right c.before.before.before.before.before.before.before.before.before.before.before.before.before.before.before.before.before.before.before.before.before.before.before.before.before.before.before.before.before.before.before.before.before.before.before.before.before.before = λ g. back-trnsmode (groups_back c.read_group_file-v6.ensures g) in
+    λ g. (c.requires (back-timezone g)).stations
 
 pub read_group_file-v8-requires : goal.read_group_file-v8-requires
 read_group_file-v8-requires c =
-    λ g. (c.requires (back-stations c g)).footnote
+    let back-delivery : fine c.read_delivery-v1.result ≡ true → Right c.before.before.before.before.before.before.before.before.before.before.before.before.before.before.before.before.before.before.before.before.before.before.before.before.before.before.before.before.before.before.before.before.before.before.before.before.before.before.before.before.before.before = λ g. delivery_back c.read_delivery-v1.ensures g in
+    let back-company : fine c.read_row_file-v2.result ≡ true → Right c.before.before.before.before.before.before.before.before.before.before.before.before.before.before.before.before.before.before.before.before.before.before.before.before.before.before.before.before.before.before.before.before.before.before.before.before.before.before.before.before.before.before = λ g. back-delivery (rows_back c.read_row_file-v2.ensures g) in
+    let back-named : fine c.company_test-v3.result ≡ true → Right c.before.before.before.before.before.before.before.before.before.before.before.before.before.before.before.before.before.before.before.before.before.before.before.before.before.before.before.before.before.before.before.before.before.before.before.before.before.before.before.before.before.before = λ g. back-company (back c.read_row_file-v2.result _ c.company_test-v3.ensures g) in
+    let back-country : fine c.read_row_file-v4.result ≡ true → Right c.before.before.before.before.before.before.before.before.before.before.before.before.before.before.before.before.before.before.before.before.before.before.before.before.before.before.before.before.before.before.before.before.before.before.before.before.before.before.before.before.before.before = λ g. back-named (rows_back c.read_row_file-v4.ensures g) in
+    let back-trnsmode : fine c.read_row_file-v5.result ≡ true → Right c.before.before.before.before.before.before.before.before.before.before.before.before.before.before.before.before.before.before.before.before.before.before.before.before.before.before.before.before.before.before.before.before.before.before.before.before.before.before.before.before.before.before = λ g. back-country (rows_back c.read_row_file-v5.ensures g) in
+    let back-timezone : fine c.read_group_file-v6.result ≡ true → Right c.before.before.before.before.before.before.before.before.before.before.before.before.before.before.before.before.before.before.before.before.before.before.before.before.before.before.before.before.before.before.before.before.before.before.before.before.before.before.before.before.before.before = λ g. back-trnsmode (groups_back c.read_group_file-v6.ensures g) in
+    let back-stations : fine c.read_row_file-v7.result ≡ true → Right c.before.before.before.before.before.before.before.before.before.before.before.before.before.before.before.before.before.before.before.before.before.before.before.before.before.before.before.before.before.before.before.before.before.before.before.before.before.before.before.before.before.before = λ g. back-timezone (rows_back c.read_row_file-v7.ensures g) in
+    λ g. (c.requires (back-stations g)).footnote
 
 -- THE TABLES KEEP THEIR LENGTHS
 pub shape_of-t_delivery : goal.shape_of-t_delivery

@@ -32,11 +32,6 @@ returns-then-not-same_bytes c =
     (sym c.same_bytes.ensures ∙ not-true _ c.if-not-same_bytes.true-raw)
     refl refl
 
-fitting : (c : goal.Else-not-same_bytes) → fits c.args.line.now (picture (record_fields (form424 0) FirstRecord)) ≡ true
-fitting c =
-    let a = c.args in
-    laid_fits (form424 0) a.line.now a.ended _ c.is_laid.ensures (not-false _ c.if-not-is_laid.false-raw)
-
 pub returns-then-not-is_readable : goal.returns-then-not-is_readable
 unfolding head_tests first_test
 returns-then-not-is_readable c =
@@ -68,7 +63,13 @@ returns c =
     (sym c.days_right.ensures ∙ not-false _ c.if-not-days_right.false-raw)
 
 pub is_readable-requires : goal.is_readable-requires
-is_readable-requires c = fitting c
+is_readable-requires c =
+    let fitting : fits c.args.line.now (picture (record_fields (form424 0) FirstRecord)) ≡ true = let a = c.args in
+    laid_fits (form424 0) a.line.now a.ended _ c.is_laid.ensures (not-false _ c.if-not-is_laid.false-raw) in
+    fitting
 
 pub days_right-requires : goal.days_right-requires
-days_right-requires c = legible_first (form424 0) _ (fitting c.before.before) (sym c.is_readable.ensures ∙ not-false _ c.if-not-is_readable.false-raw)
+days_right-requires c =
+    let fitting : fits c.args.line.now (picture (record_fields (form424 0) FirstRecord)) ≡ true = let a = c.args in
+    laid_fits (form424 0) a.line.now a.ended _ c.is_laid.ensures (not-false _ c.if-not-is_laid.false-raw) in
+    legible_first (form424 0) _ (fitting) (sym c.is_readable.ensures ∙ not-false _ c.if-not-is_readable.false-raw)

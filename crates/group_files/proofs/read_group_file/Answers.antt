@@ -7,10 +7,6 @@ use Rattle.iff.specs.Refusals.{fine}
 use Rattle.group_files.proofs.WholeLaws.{handed_on, not_there, head_refused, groups_begun, groups_refused, flag_room, groups_accepted}
 use Rattle.group_files.proofs.read_group_file.Goals as goal
 
--- there is a text
-more : (c : goal.After-begin_file) → 0 < length c.args.text.now
-more c = omega (arith, c.if-text-eq0.false)
-
 pub returns-then-text-eq0 : goal.returns-then-text-eq0
 returns-then-text-eq0 c =
     let e = c.in-Fine.is in
@@ -27,7 +23,8 @@ read_groups-requires c =
 
 pub set_rises-requires : goal.set_rises-requires
 set_rises-requires c =
-    flag_room _ _ _ _ _ _ _ c.in-Fine.is (more c.before.before.before.before.before.before.before.before.before.before.before.before.before) _ _ c.begin_file.ensures _ c.in-Rest.is _ _
+    let more : 0 < length c.args.text.now = omega (arith, c.if-text-eq0.false) in
+    flag_room _ _ _ _ _ _ _ c.in-Fine.is (more) _ _ c.begin_file.ensures _ c.in-Rest.is _ _
     c.read_groups.ensures _ c.in-AllRead.is
 
 pub returns-in-Fault : goal.returns-in-Fault
@@ -35,16 +32,19 @@ returns-in-Fault c = handed_on _ _ _ _ _ _ _ _ _ c.in-Fault.is
 
 pub returns-in-Broken : goal.returns-in-Broken
 returns-in-Broken c =
-    head_refused _ _ _ _ _ _ _ c.in-Fine.is (more c) _ _ c.begin_file.ensures _ c.in-Broken.is
+    let more : 0 < length c.args.text.now = omega (arith, c.if-text-eq0.false) in
+    head_refused _ _ _ _ _ _ _ c.in-Fine.is (more) _ _ c.begin_file.ensures _ c.in-Broken.is
 
 pub returns-in-Stopped : goal.returns-in-Stopped
 returns-in-Stopped c =
-    groups_refused _ _ _ _ _ _ _ c.in-Fine.is (more c.before.before.before.before.before.before.before.before.before.before.before.before) _ _ c.begin_file.ensures _ c.in-Rest.is _ _
+    let more : 0 < length c.args.text.now = omega (arith, c.if-text-eq0.false) in
+    groups_refused _ _ _ _ _ _ _ c.in-Fine.is (more) _ _ c.begin_file.ensures _ c.in-Rest.is _ _
     c.read_groups.ensures _ _ c.in-Stopped.is
 
 pub returns-in-AllRead : goal.returns-in-AllRead
 returns-in-AllRead c =
-    groups_accepted _ _ _ _ _ _ _ c.in-Fine.is (more c.before.before.before.before.before.before.before.before.before.before.before.before.before.before.before.before) _ _ c.begin_file.ensures _ c.in-Rest.is _ _
+    let more : 0 < length c.args.text.now = omega (arith, c.if-text-eq0.false) in
+    groups_accepted _ _ _ _ _ _ _ c.in-Fine.is (more) _ _ c.begin_file.ensures _ c.in-Rest.is _ _
     c.read_groups.ensures _ c.in-AllRead.is _ c.set_rises.ensures
 
 pub shape_of-t-in-Broken : goal.shape_of-t-in-Broken

@@ -9,12 +9,10 @@ use borrow.Author.Tests.{not-true, not-false}
 use Rattle.group_walks.proofs.WalkLaws.{as_wide, GroupsWalked, stray, starts, goes_on, breaks, ends}
 use Rattle.group_walks.proofs.walk_groups.Goals as goal
 
--- the rows in use are in the table
-rows_inside : (c : goal.After-row_width-w) → c.args.used * c.row_width-w.result ≤ length c.args.t.now
-rows_inside c = as_wide _ _ _ _ c.row_width-w.ensures.is c.requires.1
-
 pub next_head-first-requires : goal.next_head-first-requires
-next_head-first-requires c = (c.row_width-w.ensures.some, c.requires.0, rows_inside c)
+next_head-first-requires c =
+    let rows_inside : c.args.used * c.row_width-w.result ≤ length c.args.t.now = as_wide _ _ _ _ c.row_width-w.ensures.is c.requires.1 in
+    (c.row_width-w.ensures.some, c.requires.0, rows_inside)
 
 pub returns-then-first-ne1 : goal.returns-then-first-ne1
 returns-then-first-ne1 c =
@@ -30,12 +28,14 @@ loop-i-init c = (
 
 pub next_head-next-requires : goal.next_head-next-requires
 next_head-next-requires c =
-    (c.row_width-w.ensures.some, search rules, rows_inside c.before.before.before.before)
+    let rows_inside : c.args.used * c.row_width-w.result ≤ length c.args.t.now = as_wide _ _ _ _ c.row_width-w.ensures.is c.requires.1 in
+    (c.row_width-w.ensures.some, search rules, rows_inside)
 
 pub is_group_sound-requires : goal.is_group_sound-requires
 is_group_sound-requires c =
+    let rows_inside : c.args.used * c.row_width-w.result ≤ length c.args.t.now = as_wide _ _ _ _ c.row_width-w.ensures.is c.requires.1 in
     let n = c.next_head-next.ensures in
-    (c.loop-i.invariant.0.width, omega (arith, n.low), omega (arith, rows_inside c.before.before.before.before.before.before, mul-le-mul_right c.row_width-w.result n.high))
+    (c.loop-i.invariant.0.width, omega (arith, n.low), omega (arith, rows_inside, mul-le-mul_right c.row_width-w.result n.high))
 
 pub shape_of-marks-then-not-is_group_sound : goal.shape_of-marks-then-not-is_group_sound
 shape_of-marks-then-not-is_group_sound c =

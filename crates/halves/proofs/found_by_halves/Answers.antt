@@ -19,7 +19,7 @@ keyed_at-requires c = (
 )
 
 pub word_at-requires : goal.word_at-requires
-word_at-requires c = keyed_at-requires c.before.before κs
+word_at-requires c = keyed_at-requires c.before.before
 
 pub returns-then-keyed_at : goal.returns-then-keyed_at
 returns-then-keyed_at c =

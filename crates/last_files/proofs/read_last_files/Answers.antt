@@ -9,16 +9,6 @@ use Rattle.last_files.proofs.read_last_files.Goals as goal
 abbrev Right : goal.Start → Type 0
 Right s = fine s.args.v ≡ true
 
-back-timetbls : (c : goal.After-read_timetbls-blocks) → fine c.read_timetbls-blocks.result.verdict ≡ true → Right c.before.before.before.before.before.before.before.before.before.before.before.before.before.before.before
-back-timetbls c g = blocks_back c.read_timetbls-blocks.ensures.file g
-
-back-changes : (c : goal.After-read_group_file-v2) → fine c.read_group_file-v2.result ≡ true → Right c.before.before.before.before.before.before.before.before.before.before.before.before.before.before.before.before.before.before.before
-back-changes c g = back-timetbls c.before.before.before.before (groups_back c.read_group_file-v2.ensures g)
-
-back-xfootnote : (c : goal.After-read_group_file-v3) → fine c.read_group_file-v3.result ≡ true
-    → Right c.before.before.before.before.before.before.before.before.before.before.before.before.before.before.before.before.before.before.before.before.before.before.before
-back-xfootnote c g = back-changes c.before.before.before.before (groups_back c.read_group_file-v3.ensures g)
-
 -- WHAT THE READERS ASK FOR
 pub read_timetbls-blocks-requires : goal.read_timetbls-blocks-requires
 read_timetbls-blocks-requires c =
@@ -26,15 +16,22 @@ read_timetbls-blocks-requires c =
 
 pub read_group_file-v2-requires : goal.read_group_file-v2-requires
 read_group_file-v2-requires c =
-    λ g. (c.requires (back-timetbls c g)).changes
+    let back-timetbls : fine c.read_timetbls-blocks.result.verdict ≡ true → Right c.before.before.before.before.before.before.before.before.before.before.before.before.before.before.before.before.before.before = λ g. blocks_back c.read_timetbls-blocks.ensures.file g in
+    λ g. (c.requires (back-timetbls g)).changes
 
 pub read_group_file-v3-requires : goal.read_group_file-v3-requires
 read_group_file-v3-requires c =
-    λ g. (c.requires (back-changes c g)).xfootnote
+    let back-timetbls : fine c.read_timetbls-blocks.result.verdict ≡ true → Right c.before.before.before.before.before.before.before.before.before.before.before.before.before.before.before.before.before.before.before.before.before.before = λ g. blocks_back c.read_timetbls-blocks.ensures.file g in
+    let back-changes : fine c.read_group_file-v2.result ≡ true → Right c.before.before.before.before.before.before.before.before.before.before.before.before.before.before.before.before.before.before.before.before.before.before = λ g. back-timetbls (groups_back c.read_group_file-v2.ensures g) in
+    λ g. (c.requires (back-changes g)).xfootnote
 
 pub read_group_file-v4-requires : goal.read_group_file-v4-requires
 read_group_file-v4-requires c =
-    λ g. (c.requires (back-xfootnote c g)).xchanges
+    let back-timetbls : fine c.read_timetbls-blocks.result.verdict ≡ true → Right c.before.before.before.before.before.before.before.before.before.before.before.before.before.before.before.before.before.before.before.before.before.before.before.before.before.before = λ g. blocks_back c.read_timetbls-blocks.ensures.file g in
+    let back-changes : fine c.read_group_file-v2.result ≡ true → Right c.before.before.before.before.before.before.before.before.before.before.before.before.before.before.before.before.before.before.before.before.before.before.before.before.before.before = λ g. back-timetbls (groups_back c.read_group_file-v2.ensures g) in
+    let back-xfootnote : fine c.read_group_file-v3.result ≡ true
+    → Right c.before.before.before.before.before.before.before.before.before.before.before.before.before.before.before.before.before.before.before.before.before.before.before.before.before.before = λ g. back-changes (groups_back c.read_group_file-v3.ensures g) in
+    λ g. (c.requires (back-xfootnote g)).xchanges
 
 -- THE TABLES KEEP THEIR LENGTHS
 pub shape_of-t_timetbls : goal.shape_of-t_timetbls

@@ -4,7 +4,7 @@ use Rattle.legs.proofs.SpanLaws.{percent_range, dash_range, ampersand_range, ast
 use Rattle.legs.proofs.is_in_range.Goals as goal
 
 pub returns-in_default : goal.returns-in_default
-returns-in_default c = let q = c.in_default.rest in no_range _ _ q.0.0.0.1 q.0.0.1 q.0.1 q.1
+returns-in_default c = let q = c.in_default.in_default-own.rest in no_range _ _ q.0.0.0.1 q.0.0.1 q.0.1 q.1
 
 pub returns-in-37 : goal.returns-in-37
 returns-in-37 c = c.is_strict.ensures ∙ percent_range _ _ c.in-37.is

@@ -14,33 +14,32 @@ use Rattle.needed_times.specs.Needed.{rows_found, best_for}
 use Rattle.needed_times.proofs.NeededLaws.{same_verdict, flag_alone}
 use Rattle.needed_times.proofs.without_pair.Goals as goal
 
--- the station's row stands, whatever the rows of the other files are
-stands : (c : goal.After-find_station-row) → Stands (row_width (Rows Stations)) c.args.stations.now c.find_station-row.result
-stands c = (c.find_station-row.ensures (per_file (λ f. rows_in f c.args.stations.now)) refl).stands
-
--- its flag is the one that was read
-flag_is : (c : goal.After-word_of-flag) (R : PerFile (List Row)) → R.stations ≡ rows_in (Rows Stations) c.args.stations.now
-    → change_flag (station_row R c.args.a.station) ≡ c.word_of-flag.result
-flag_is c R e = ap change_flag (c.find_station-row.ensures R e).is ∙ sym c.word_of-flag.ensures
-
 pub returns-then-flag-eq0 : goal.returns-then-flag-eq0
 returns-then-flag-eq0 c R e f g =
+    let flag_is : (R : PerFile (List Row)) → R.stations ≡ rows_in (Rows Stations) c.args.stations.now
+    → change_flag (station_row R c.args.a.station) ≡ c.word_of-flag.result = λ R e. ap change_flag (c.find_station-row.ensures R e).is ∙ sym c.word_of-flag.ensures in
     let a = c.args in
     c.core.ensures
     ∙ rw (to_z-of_z c.fits.gap)
     (flag_alone a.gap (change_flag (station_row R a.a.station))
     (best_for R (rows_found a.timetbls.now a.a) (rows_found a.timetbls.now a.b) a.a.station a.from a.to)
-    (change_time (station_row R a.a.station)) (flag_is c R e ∙ c.if-flag-eq0.true))
+    (change_time (station_row R a.a.station)) (flag_is R e ∙ c.if-flag-eq0.true))
 
 pub returns : goal.returns
 returns c R e f g =
+    let flag_is : (R : PerFile (List Row)) → R.stations ≡ rows_in (Rows Stations) c.args.stations.now
+    → change_flag (station_row R c.args.a.station) ≡ c.word_of-flag.result = λ R e. ap change_flag (c.find_station-row.ensures R e).is ∙ sym c.word_of-flag.ensures in
     c.core-2.ensures
     ∙ rw (to_z-of_z c.fits.gap)
-    (same_verdict c.args.gap c.word_of-flag.result _ c.best_for-best.result _ c.word_of-time.result _ (sym (flag_is c R e)) (c.best_for-best.ensures R f g)
+    (same_verdict c.args.gap c.word_of-flag.result _ c.best_for-best.result _ c.word_of-time.result _ (sym (flag_is R e)) (c.best_for-best.ensures R f g)
     (c.word_of-time.ensures ∙ ap change_time (sym (c.find_station-row.ensures R e).is)))
 
 pub word_of-flag-requires : goal.word_of-flag-requires
-word_of-flag-requires c = (search rules, stands c)
+word_of-flag-requires c =
+    let stands : Stands (row_width (Rows Stations)) c.args.stations.now c.find_station-row.result = (c.find_station-row.ensures (per_file (λ f. rows_in f c.args.stations.now)) refl).stands in
+    (search rules, stands)
 
 pub word_of-time-requires : goal.word_of-time-requires
-word_of-time-requires c = (search rules, stands c.before.before)
+word_of-time-requires c =
+    let stands : Stands (row_width (Rows Stations)) c.args.stations.now c.find_station-row.result = (c.find_station-row.ensures (per_file (λ f. rows_in f c.args.stations.now)) refl).stands in
+    (search rules, stands)

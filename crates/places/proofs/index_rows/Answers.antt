@@ -15,7 +15,7 @@ word_at-requires c =
 pub word_at-key-requires : goal.word_at-key-requires
 word_at-key-requires c = (
   key_column c.args.file _ _ _ c.row_width-w.ensures.is c.key_tag-tag.ensures c.key_word-col.ensures,
-  (word_at-requires c.before.before κs).1,
+  (word_at-requires c.before.before).1,
 )
 
 pub loop-i-preserved : goal.loop-i-preserved

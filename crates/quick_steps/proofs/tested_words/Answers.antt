@@ -53,7 +53,7 @@ returns-else-not-is_stop c h =
     let a = c.args in
     stop_passes a.form a.counts a.companies.now a.modes.now a.stations.now a.footnotes.now a.block.now a.at
     a.n a.k a.stops _ h a.letter c.requires.1 (sym c.is_stop.ensures ∙ not-false _ c.if-not-is_stop.false-raw)
-    c.in_default.rest.0.1 (c.plain_stop.ensures h)
+    c.in_default.in_default-own.rest.0.1 (c.plain_stop.ensures h)
 
 pub returns-then-not-is_stop : goal.returns-then-not-is_stop
 returns-then-not-is_stop c h = nothing _ c.untold.ensures h

@@ -8,16 +8,16 @@ use Rattle.iff_rules.specs.References.{met_by_row}
 use Rattle.keys.specs.Lookup.{keys_among}
 use Rattle.row_references.proofs.met_station.Goals as goal
 
--- the country among the rows that were counted
-country : (n : goal.After-names_at)
-    → n.names_at.result
-    ≡ has (station_country n.args.row.now) (keys_among (Rows Country) n.args.counts.countries n.args.countries.now)
-country n = n.names_at.ensures
-
 pub returns-then-names_at : goal.returns-then-names_at
 unfolding met_by_row
-returns-then-names_at c k a = rw (a.countries, a.zones, ← country c.before.before.before, c.if-names_at.true) c.names_at-then-names_at.ensures
+returns-then-names_at c k a =
+    let country : c.names_at.result
+    ≡ has (station_country c.args.row.now) (keys_among (Rows Country) c.args.counts.countries c.args.countries.now) = c.names_at.ensures in
+    rw (a.countries, a.zones, ← country, c.if-names_at.true) c.names_at-then-names_at.ensures
 
 pub returns : goal.returns
 unfolding met_by_row
-returns c k a = rw (a.countries, ← country c.before, c.if-names_at.false)
+returns c k a =
+    let country : c.names_at.result
+    ≡ has (station_country c.args.row.now) (keys_among (Rows Country) c.args.counts.countries c.args.countries.now) = c.names_at.ensures in
+    rw (a.countries, ← country, c.if-names_at.false)

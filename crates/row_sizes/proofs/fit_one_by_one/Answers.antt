@@ -20,30 +20,38 @@ word_at-tag-requires c =
     let wide = c.row_width-w.ensures in
     (wide.some, row_inside _ _ c.args.used _ c.loop-i-test.true (rw wide.is c.requires))
 
--- row i's line, and whether it fits
-line-found : (c : goal.After-record_length-n) →
-    let a = c.args in
-    c.record_length-n.result ≡ line_length a.form (record_of a.file (tag (row_at (row_width a.file) a.t.now c.loop-i.i)))
-line-found c =
-    let a = c.args in
-    line_of a.form a.file a.t.now _ c.loop-i.i _ _ _ c.row_width-w.ensures.is c.word_at-tag.ensures
-    c.record_of.ensures c.record_length-n.ensures
-
-too_long : (c : goal.After-record_length-n) → c.loop-i.left < c.record_length-n.result + 2 →
-    let a = c.args in
-    false ≡ leb (first_size + total (row_size a.form a.file) (rows_between (row_width a.file) a.t.now 1 a.used)) limit
-too_long c h =
-    count_fails _ _ _ _ _ _ _ c.loop-i.invariant (line-found c) c.loop-i-test.true h
-
 pub returns-then-left-n : goal.returns-then-left-n
-returns-then-left-n c = too_long c.before (omega (arith, c.if-left-n.true))
+returns-then-left-n c =
+    let line-found : let l = c.before.before.before.before in
+    let a = l.before.before.before.args in
+    c.record_length-n.result ≡ line_length a.form (record_of a.file (tag (row_at (row_width a.file) a.t.now l.loop.i))) = let a = c.args in
+    line_of a.form a.file a.t.now _ c.loop-i.i _ _ _ c.row_width-w.ensures.is c.word_at-tag.ensures
+    c.record_of.ensures c.record_length-n.ensures in
+    let too_long : c.loop-i.left < c.record_length-n.result + 2 →
+    let a = c.args in
+    false ≡ leb (first_size + total (row_size a.form a.file) (rows_between (row_width a.file) a.t.now 1 a.used)) limit = λ h. count_fails _ _ _ _ _ _ _ c.loop-i.invariant (line-found) c.loop-i-test.true h in
+    too_long (omega (arith, c.if-left-n.true))
 
 pub returns-then-left-lt2 : goal.returns-then-left-lt2
-returns-then-left-lt2 c = too_long c.before.before (omega (arith, c.if-left-lt2.true, c.if-left-n.false))
+returns-then-left-lt2 c =
+    let line-found : let l = c.before.before.before.before in
+    let a = l.before.before.before.args in
+    c.record_length-n.result ≡ line_length a.form (record_of a.file (tag (row_at (row_width a.file) a.t.now l.loop.i))) = let a = c.args in
+    line_of a.form a.file a.t.now _ c.loop-i.i _ _ _ c.row_width-w.ensures.is c.word_at-tag.ensures
+    c.record_of.ensures c.record_length-n.ensures in
+    let too_long : c.loop-i.left < c.record_length-n.result + 2 →
+    let a = c.args in
+    false ≡ leb (first_size + total (row_size a.form a.file) (rows_between (row_width a.file) a.t.now 1 a.used)) limit = λ h. count_fails _ _ _ _ _ _ _ c.loop-i.invariant (line-found) c.loop-i-test.true h in
+    too_long (omega (arith, c.if-left-lt2.true, c.if-left-n.false))
 
 pub loop-i-preserved : goal.loop-i-preserved
 loop-i-preserved c =
-    count_on _ _ _ _ _ _ _ c.loop-i.invariant (line-found c) c.loop-i-test.true c.if-left-n.false c.if-left-lt2.false
+    let line-found : let l = c.before.before.before.before in
+    let a = l.before.before.before.args in
+    c.record_length-n.result ≡ line_length a.form (record_of a.file (tag (row_at (row_width a.file) a.t.now l.loop.i))) = let a = c.args in
+    line_of a.form a.file a.t.now _ c.loop-i.i _ _ _ c.row_width-w.ensures.is c.word_at-tag.ensures
+    c.record_of.ensures c.record_length-n.ensures in
+    count_on _ _ _ _ _ _ _ c.loop-i.invariant (line-found) c.loop-i-test.true c.if-left-n.false c.if-left-lt2.false
 
 pub loop-i-init : goal.loop-i-init
 loop-i-init c = count_begin _ _ _ _

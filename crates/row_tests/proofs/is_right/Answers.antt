@@ -44,7 +44,7 @@ returns-in-63 c k g =
 
 pub returns-in_default : goal.returns-in_default
 returns-in_default c k g =
-    let q = c.in_default.rest in
+    let q = c.in_default.in_default-own.rest in
     plain_row k c.args.stops c.args.row.now c.requires q.0.0.0.0.0.0.0.1 q.0.0.0.0.0.0.1 q.0.0.0.0.0.1
     q.0.0.0.0.1 q.0.0.0.1 q.0.0.1 q.0.1 q.1
     _ c.are_zero-in_default.ensures _ c.block_means-in_default.ensures _ g.stations _ c.is_plain_stop.ensures

@@ -20,19 +20,16 @@ pub returns-in_default : goal.returns-in_default
 returns-in_default c =
     not_sound (lent c.before.before.before.before.before.before.before.before.before.before.before.before.before.before.before.before.before.before) c.args.questions.now c.args.answers.now (told_unsound (lent c.before.before.before.before.before.before.before.before.before.before.before.before.before.before.before.before.before.before) _ _ c.tell_soundness.ensures c.in_default.is)
 
--- they are sound, and it is said whether the services are in the slots
-are-sound : (c : goal.In-Sound-2) → sound (lent c.before.before.before.before.before.before.before.before.before.before.before.before.before.before.before.before.before.before) ≡ true
-are-sound c =
-    told_sound (lent c.before.before.before.before.before.before.before.before.before.before.before.before.before.before.before.before.before.before) _ _ c.tell_soundness.ensures _ c.in-Sound.is
-
 pub fill_list-requires : goal.fill_list-requires
-fill_list-requires c = (
-  leant (lent c.before.before.before.before.before.before.before.before.before.before.before.before.before.before.before.before.before.before.before.before.before) (are-sound c),
-  tested (lent c.before.before.before.before.before.before.before.before.before.before.before.before.before.before.before.before.before.before.before.before.before) (are-sound c),
-  told_services (lent c.before.before.before.before.before.before.before.before.before.before.before.before.before.before.before.before.before.before.before.before.before) _ _ c.tell_soundness.ensures _ c.in-Sound.is,
-)
+fill_list-requires c =
+    let are-sound : sound (lent c.before.before.before.before.before.before.before.before.before.before.before.before.before.before.before.before.before.before.before.before.before) ≡ true = told_sound (lent c.before.before.before.before.before.before.before.before.before.before.before.before.before.before.before.before.before.before.before.before.before) _ _ c.tell_soundness.ensures _ c.in-Sound.is in (
+      leant (lent c.before.before.before.before.before.before.before.before.before.before.before.before.before.before.before.before.before.before.before.before.before) (are-sound),
+      tested (lent c.before.before.before.before.before.before.before.before.before.before.before.before.before.before.before.before.before.before.before.before.before) (are-sound),
+      told_services (lent c.before.before.before.before.before.before.before.before.before.before.before.before.before.before.before.before.before.before.before.before.before) _ _ c.tell_soundness.ensures _ c.in-Sound.is,
+    )
 
 pub returns : goal.returns
 returns c =
-    sheeted (lent c.before.before.before.before.before.before.before.before.before.before.before.before.before.before.before.before.before.before.before.before.before.before.before.before.before) c.args.questions.now c.args.answers.now (are-sound c) _ _
+    let are-sound : sound (lent c.before.before.before.before.before.before.before.before.before.before.before.before.before.before.before.before.before.before.before.before.before.before.before.before.before) ≡ true = told_sound (lent c.before.before.before.before.before.before.before.before.before.before.before.before.before.before.before.before.before.before.before.before.before.before.before.before.before) _ _ c.tell_soundness.ensures _ c.in-Sound.is in
+    sheeted (lent c.before.before.before.before.before.before.before.before.before.before.before.before.before.before.before.before.before.before.before.before.before.before.before.before.before) c.args.questions.now c.args.answers.now (are-sound) _ _
     (c.fill_list.ensures (rows_of_tables (lent c.before.before.before.before.before.before.before.before.before.before.before.before.before.before.before.before.before.before.before.before.before.before.before.before.before)) (own_rows (lent c.before.before.before.before.before.before.before.before.before.before.before.before.before.before.before.before.before.before.before.before.before.before.before.before.before)))

@@ -24,14 +24,6 @@ tables s =
     let a = s.args in
     eleven a.delivery.now a.company.now a.country.now a.trnsmode.now a.timezone.now a.stations.now a.footnote.now a.timetbls.now a.changes.now a.xfootnote.now a.xchanges.now
 
--- TIMETBLS, as it was told
-timetbls-is : (c : goal.After-judge_blocks)
-    → is_right c.judge_blocks.result
-    ≡ timetbls_sound (context_of (rows_of_tables (tables c.before.before.before.before.before.before.before.before.before.before.before.before.before.before.before.before.before.before.before.before.before))) c.form_of-form.result c.args.first.now
-    c.args.timetbls.now
-timetbls-is c =
-    c.judge_blocks.ensures.says (context_of (rows_of_tables (tables c.before.before.before.before.before.before.before.before.before.before.before.before.before.before.before.before.before.before.before.before.before))) (block_keys_lem (tables c.before.before.before.before.before.before.before.before.before.before.before.before.before.before.before.before.before.before.before.before.before) c.args.used c.requires.0)
-
 pub are_framed-requires : goal.are_framed-requires
 are_framed-requires c =
     (c.requires.0, c.requires.2)
@@ -48,9 +40,12 @@ judge_blocks-requires c =
 
 pub returns-in_default : goal.returns-in_default
 returns-in_default c =
+    let timetbls-is : is_right c.judge_blocks.result
+    ≡ timetbls_sound (context_of (rows_of_tables (tables c.before.before.before.before.before.before.before.before.before.before.before.before.before.before.before.before.before.before.before.before.before.before.before.before.before))) c.form_of-form.result c.args.first.now
+    c.args.timetbls.now = c.judge_blocks.ensures.says (context_of (rows_of_tables (tables c.before.before.before.before.before.before.before.before.before.before.before.before.before.before.before.before.before.before.before.before.before.before.before.before.before))) (block_keys_lem (tables c.before.before.before.before.before.before.before.before.before.before.before.before.before.before.before.before.before.before.before.before.before.before.before.before.before) c.args.used c.requires.0) in
     unsound (tables c.before.before.before.before.before.before.before.before.before.before.before.before.before.before.before.before.before.before.before.before.before.before.before.before.before) _
     (not_timetbls (tables c.before.before.before.before.before.before.before.before.before.before.before.before.before.before.before.before.before.before.before.before.before.before.before.before.before) c.args.first.now c.requires.1 _ c.form_of-form.ensures c.requires.3
-    (sym (timetbls-is c) ∙ ap is_right c.in_default.is))
+    (sym (timetbls-is) ∙ ap is_right c.in_default.is))
 
 pub are_right_behind-requires : goal.are_right_behind-requires
 are_right_behind-requires c =
@@ -64,43 +59,65 @@ returns-then-not-are_right_behind c =
     (sym (c.are_right_behind.ensures (form_is (tables c.before.before.before.before.before.before.before.before.before.before.before.before.before.before.before.before.before.before.before.before.before.before.before.before.before.before.before.before.before.before.before.before) a.first.now c.requires.1 _ c.form_of-form.ensures c.requires.3))
     ∙ not-true _ c.if-not-are_right_behind.true-raw))
 
-company-is : (c : goal.After-names_at) → c.names_at.result ≡ sound (tables c.before.before.before.before.before.before.before.before.before.before.before.before.before.before.before.before.before.before.before.before.before.before.before.before.before.before.before.before.before.before.before.before.before.before)
-company-is c =
-    let a = c.args in
-    c.names_at.ensures
-    ∙ ap (has (own_company a.first.now)) (keys_counted (Rows Company) a.company.now a.used.company c.requires.0.company)
-    ∙ by_company (tables c.before.before.before.before.before.before.before.before.before.before.before.before.before.before.before.before.before.before.before.before.before.before.before.before.before.before.before.before.before.before.before.before.before.before) a.first.now c.requires.1 _ c.form_of-form.ensures c.requires.3
-    (sym c.are_framed.ensures ∙ not-false _ c.if-not-are_framed.left)
-    (sym (timetbls-is c.before.before.before.before.before.before.before.before.before.before.before.before.before) ∙ ap is_right c.in-Right.is)
-    (sym (c.are_right_behind.ensures (form_is (tables c.before.before.before.before.before.before.before.before.before.before.before.before.before.before.before.before.before.before.before.before.before.before.before.before.before.before.before.before.before.before.before.before.before.before) a.first.now c.requires.1 _ c.form_of-form.ensures c.requires.3))
-    ∙ not-false _ c.if-not-are_right_behind.false-raw)
-
 pub returns-then-not-names_at : goal.returns-then-not-names_at
 returns-then-not-names_at c =
-    unsound (tables c.before.before.before.before.before.before.before.before.before.before.before.before.before.before.before.before.before.before.before.before.before.before.before.before.before.before.before.before.before.before.before.before.before.before.before) _ (sym (not-true _ c.if-not-names_at.true-raw) ∙ company-is c)
+    let timetbls-is : is_right c.judge_blocks.result
+    ≡ timetbls_sound (context_of (rows_of_tables (tables c.before.before.before.before.before.before.before.before.before.before.before.before.before.before.before.before.before.before.before.before.before.before.before.before.before.before.before.before.before.before.before.before.before.before.before))) c.form_of-form.result c.args.first.now
+    c.args.timetbls.now = c.judge_blocks.ensures.says (context_of (rows_of_tables (tables c.before.before.before.before.before.before.before.before.before.before.before.before.before.before.before.before.before.before.before.before.before.before.before.before.before.before.before.before.before.before.before.before.before.before.before))) (block_keys_lem (tables c.before.before.before.before.before.before.before.before.before.before.before.before.before.before.before.before.before.before.before.before.before.before.before.before.before.before.before.before.before.before.before.before.before.before.before) c.args.used c.requires.0) in
+    let company-is : c.names_at.result ≡ sound (tables c.before.before.before.before.before.before.before.before.before.before.before.before.before.before.before.before.before.before.before.before.before.before.before.before.before.before.before.before.before.before.before.before.before.before.before) = let a = c.args in
+    c.names_at.ensures
+    ∙ ap (has (own_company a.first.now)) (keys_counted (Rows Company) a.company.now a.used.company c.requires.0.company)
+    ∙ by_company (tables c.before.before.before.before.before.before.before.before.before.before.before.before.before.before.before.before.before.before.before.before.before.before.before.before.before.before.before.before.before.before.before.before.before.before.before) a.first.now c.requires.1 _ c.form_of-form.ensures c.requires.3
+    (sym c.are_framed.ensures ∙ not-false _ c.if-not-are_framed.left)
+    (sym (timetbls-is) ∙ ap is_right c.in-Right.is)
+    (sym (c.are_right_behind.ensures (form_is (tables c.before.before.before.before.before.before.before.before.before.before.before.before.before.before.before.before.before.before.before.before.before.before.before.before.before.before.before.before.before.before.before.before.before.before.before) a.first.now c.requires.1 _ c.form_of-form.ensures c.requires.3))
+    ∙ not-false _ c.if-not-are_right_behind.false-raw) in
+    unsound (tables c.before.before.before.before.before.before.before.before.before.before.before.before.before.before.before.before.before.before.before.before.before.before.before.before.before.before.before.before.before.before.before.before.before.before.before) _ (sym (not-true _ c.if-not-names_at.true-raw) ∙ company-is)
 
 pub returns-then-asked : goal.returns-then-asked
 returns-then-asked c =
-    hinted (tables c.before.before.before.before.before.before.before.before.before.before.before.before.before.before.before.before.before.before.before.before.before.before.before.before.before.before.before.before.before.before.before.before.before.before.before.before) _ (sym (not-false _ c.if-not-names_at.false-raw) ∙ company-is c)
+    let timetbls-is : is_right c.judge_blocks.result
+    ≡ timetbls_sound (context_of (rows_of_tables (tables c.before.before.before.before.before.before.before.before.before.before.before.before.before.before.before.before.before.before.before.before.before.before.before.before.before.before.before.before.before.before.before.before.before.before.before.before))) c.form_of-form.result c.args.first.now
+    c.args.timetbls.now = c.judge_blocks.ensures.says (context_of (rows_of_tables (tables c.before.before.before.before.before.before.before.before.before.before.before.before.before.before.before.before.before.before.before.before.before.before.before.before.before.before.before.before.before.before.before.before.before.before.before.before))) (block_keys_lem (tables c.before.before.before.before.before.before.before.before.before.before.before.before.before.before.before.before.before.before.before.before.before.before.before.before.before.before.before.before.before.before.before.before.before.before.before.before) c.args.used c.requires.0) in
+    let company-is : c.names_at.result ≡ sound (tables c.before.before.before.before.before.before.before.before.before.before.before.before.before.before.before.before.before.before.before.before.before.before.before.before.before.before.before.before.before.before.before.before.before.before.before.before) = let a = c.args in
+    c.names_at.ensures
+    ∙ ap (has (own_company a.first.now)) (keys_counted (Rows Company) a.company.now a.used.company c.requires.0.company)
+    ∙ by_company (tables c.before.before.before.before.before.before.before.before.before.before.before.before.before.before.before.before.before.before.before.before.before.before.before.before.before.before.before.before.before.before.before.before.before.before.before.before) a.first.now c.requires.1 _ c.form_of-form.ensures c.requires.3
+    (sym c.are_framed.ensures ∙ not-false _ c.if-not-are_framed.left)
+    (sym (timetbls-is) ∙ ap is_right c.in-Right.is)
+    (sym (c.are_right_behind.ensures (form_is (tables c.before.before.before.before.before.before.before.before.before.before.before.before.before.before.before.before.before.before.before.before.before.before.before.before.before.before.before.before.before.before.before.before.before.before.before.before) a.first.now c.requires.1 _ c.form_of-form.ensures c.requires.3))
+    ∙ not-false _ c.if-not-are_right_behind.false-raw) in
+    hinted (tables c.before.before.before.before.before.before.before.before.before.before.before.before.before.before.before.before.before.before.before.before.before.before.before.before.before.before.before.before.before.before.before.before.before.before.before.before) _ (sym (not-false _ c.if-not-names_at.false-raw) ∙ company-is)
 
 pub returns : goal.returns
 returns c =
-    indexed (tables c.before.before.before.before.before.before.before.before.before.before.before.before.before.before.before.before.before.before.before.before.before.before.before.before.before.before.before.before.before.before.before.before.before.before.before.before) _ (sym (not-false _ c.if-not-names_at.false-raw) ∙ company-is c) _ _ (c.index_in_rows-asked.ensures.1 c.if-asked.false)
+    let timetbls-is : is_right c.judge_blocks.result
+    ≡ timetbls_sound (context_of (rows_of_tables (tables c.before.before.before.before.before.before.before.before.before.before.before.before.before.before.before.before.before.before.before.before.before.before.before.before.before.before.before.before.before.before.before.before.before.before.before.before))) c.form_of-form.result c.args.first.now
+    c.args.timetbls.now = c.judge_blocks.ensures.says (context_of (rows_of_tables (tables c.before.before.before.before.before.before.before.before.before.before.before.before.before.before.before.before.before.before.before.before.before.before.before.before.before.before.before.before.before.before.before.before.before.before.before.before))) (block_keys_lem (tables c.before.before.before.before.before.before.before.before.before.before.before.before.before.before.before.before.before.before.before.before.before.before.before.before.before.before.before.before.before.before.before.before.before.before.before.before) c.args.used c.requires.0) in
+    let company-is : c.names_at.result ≡ sound (tables c.before.before.before.before.before.before.before.before.before.before.before.before.before.before.before.before.before.before.before.before.before.before.before.before.before.before.before.before.before.before.before.before.before.before.before.before) = let a = c.args in
+    c.names_at.ensures
+    ∙ ap (has (own_company a.first.now)) (keys_counted (Rows Company) a.company.now a.used.company c.requires.0.company)
+    ∙ by_company (tables c.before.before.before.before.before.before.before.before.before.before.before.before.before.before.before.before.before.before.before.before.before.before.before.before.before.before.before.before.before.before.before.before.before.before.before.before) a.first.now c.requires.1 _ c.form_of-form.ensures c.requires.3
+    (sym c.are_framed.ensures ∙ not-false _ c.if-not-are_framed.left)
+    (sym (timetbls-is) ∙ ap is_right c.in-Right.is)
+    (sym (c.are_right_behind.ensures (form_is (tables c.before.before.before.before.before.before.before.before.before.before.before.before.before.before.before.before.before.before.before.before.before.before.before.before.before.before.before.before.before.before.before.before.before.before.before.before) a.first.now c.requires.1 _ c.form_of-form.ensures c.requires.3))
+    ∙ not-false _ c.if-not-are_right_behind.false-raw) in
+    indexed (tables c.before.before.before.before.before.before.before.before.before.before.before.before.before.before.before.before.before.before.before.before.before.before.before.before.before.before.before.before.before.before.before.before.before.before.before.before) _ (sym (not-false _ c.if-not-names_at.false-raw) ∙ company-is) _ _ (c.index_in_rows-asked.ensures.1 c.if-asked.false)
     (c.judge_blocks.ensures.index _ _ c.in-Right.is)
-
--- no slot is added
-slots_kept : (c : goal.After-names_at)
-    → length c.index_in_rows-asked.new.1.1.1.1.0 ≡ length c.args.places.now
-slots_kept c =
-    c.index_in_rows-asked.auto.1.1.1.1.0
-    ∙ c.judge_blocks.auto.1.1.1.1.1.1.1.1.0
-    ∙ c.are_framed.auto.1.1.1.1.1.1.1.1.1.1.1.1.1.1.0
 
 pub bounds-first-1 : goal.bounds-first-1
 bounds-first-1 c = omega (arith, c.requires.2)
 
 pub shape_of-places-then-asked : goal.shape_of-places-then-asked
-shape_of-places-then-asked c = slots_kept c.before.before
+shape_of-places-then-asked c =
+    let slots_kept : length c.index_in_rows-asked.new.1.1.1.1.0 ≡ length c.args.places.now = c.index_in_rows-asked.auto.1.1.1.1.0
+    ∙ c.judge_blocks.auto.1.1.1.1.1.1.1.1.0
+    ∙ c.are_framed.auto.1.1.1.1.1.1.1.1.1.1.1.1.1.1.0 in
+    slots_kept
 
 pub shape_of-places : goal.shape_of-places
-shape_of-places c = slots_kept c.before.before
+shape_of-places c =
+    let slots_kept : length c.index_in_rows-asked.new.1.1.1.1.0 ≡ length c.args.places.now = c.index_in_rows-asked.auto.1.1.1.1.0
+    ∙ c.judge_blocks.auto.1.1.1.1.1.1.1.1.0
+    ∙ c.are_framed.auto.1.1.1.1.1.1.1.1.1.1.1.1.1.1.0 in
+    slots_kept

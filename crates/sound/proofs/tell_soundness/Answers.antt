@@ -18,33 +18,31 @@ tables s =
     let a = s.args in
     eleven a.delivery.now a.company.now a.country.now a.trnsmode.now a.timezone.now a.stations.now a.footnote.now a.timetbls.now a.changes.now a.xfootnote.now a.xchanges.now
 
-counted : (c : goal.After-are_there) → Counted (tables c.before.before.before.before.before.before.before.before.before.before.before.before.before.before.before) c.count_rows-used.result
-counted c = c.count_rows-used.ensures c.args.timetbls.now
-
-there_is : (c : goal.After-are_there) → c.are_there.result ≡ all_there (rows_of_tables (tables c.before.before.before.before.before.before.before.before.before.before.before.before.before.before.before))
-there_is c = c.are_there.ensures (tables c.before.before.before.before.before.before.before.before.before.before.before.before.before.before.before) (counted c) c.has_blocks.ensures
-
--- DELIVERY has rows
-held : (c : goal.Else-not-are_there) → 0 < c.count_rows-used.result.delivery
-held c =
-    omega (arith, delivery_held (tables c.before.before.before.before.before.before.before.before.before.before.before.before.before.before.before.before) (sym (there_is c.before) ∙ not-false _ c.if-not-are_there.false-raw), (counted c.before).delivery)
-
 pub returns-then-not-are_there : goal.returns-then-not-are_there
-returns-then-not-are_there c = unsound (tables c.before.before.before.before.before.before.before.before.before.before.before.before.before.before.before.before) _ (not_there (tables c.before.before.before.before.before.before.before.before.before.before.before.before.before.before.before.before) (sym (there_is c.before) ∙ not-true _ c.if-not-are_there.true-raw))
+returns-then-not-are_there c =
+    let counted : Counted (tables c.before.before.before.before.before.before.before.before.before.before.before.before.before.before.before.before) c.count_rows-used.result = c.count_rows-used.ensures c.args.timetbls.now in
+    let there_is : c.are_there.result ≡ all_there (rows_of_tables (tables c.before.before.before.before.before.before.before.before.before.before.before.before.before.before.before.before)) = c.are_there.ensures (tables c.before.before.before.before.before.before.before.before.before.before.before.before.before.before.before.before) (counted) c.has_blocks.ensures in
+    unsound (tables c.before.before.before.before.before.before.before.before.before.before.before.before.before.before.before.before) _ (not_there (tables c.before.before.before.before.before.before.before.before.before.before.before.before.before.before.before.before) (sym (there_is) ∙ not-true _ c.if-not-are_there.true-raw))
 
 pub slice_bounds-first-end : goal.slice_bounds-first-end
 slice_bounds-first-end c =
+    let counted : Counted (tables c.before.before.before.before.before.before.before.before.before.before.before.before.before.before.before.before) c.count_rows-used.result = c.count_rows-used.ensures c.args.timetbls.now in
+    let there_is : c.are_there.result ≡ all_there (rows_of_tables (tables c.before.before.before.before.before.before.before.before.before.before.before.before.before.before.before.before)) = c.are_there.ensures (tables c.before.before.before.before.before.before.before.before.before.before.before.before.before.before.before.before) (counted) c.has_blocks.ensures in
+    let held : 0 < c.count_rows-used.result.delivery = omega (arith, delivery_held (tables c.before.before.before.before.before.before.before.before.before.before.before.before.before.before.before.before) (sym (there_is) ∙ not-false _ c.if-not-are_there.false-raw), (counted).delivery) in
     let a = c.args in
-    let h = first_inside Delivery a.delivery.now _ (counted c.before).delivery (held c) in
+    let h = first_inside Delivery a.delivery.now _ (counted).delivery (held) in
     omega (arith, h)
 
 pub are_all_sound-requires : goal.are_all_sound-requires
 are_all_sound-requires c =
+    let counted : Counted (tables c.before.before.before.before.before.before.before.before.before.before.before.before.before.before.before.before.before.before) c.count_rows-used.result = c.count_rows-used.ensures c.args.timetbls.now in
+    let there_is : c.are_there.result ≡ all_there (rows_of_tables (tables c.before.before.before.before.before.before.before.before.before.before.before.before.before.before.before.before.before.before)) = c.are_there.ensures (tables c.before.before.before.before.before.before.before.before.before.before.before.before.before.before.before.before.before.before) (counted) c.has_blocks.ensures in
+    let held : 0 < c.count_rows-used.result.delivery = omega (arith, delivery_held (tables c.before.before.before.before.before.before.before.before.before.before.before.before.before.before.before.before.before.before) (sym (there_is) ∙ not-false _ c.if-not-are_there.false-raw), (counted).delivery) in
     let a = c.args in
-    let k = counted c.before in
-    let r = first_row_lem Delivery a.delivery.now _ k.delivery (held c) in
-    let w = first_wide Delivery a.delivery.now 6 refl (first_inside Delivery a.delivery.now _ k.delivery (held c)) in
-    (k, r.0, omega (arith, w), sym (there_is c.before) ∙ not-false _ c.if-not-are_there.false-raw)
+    let k = counted in
+    let r = first_row_lem Delivery a.delivery.now _ k.delivery (held) in
+    let w = first_wide Delivery a.delivery.now 6 refl (first_inside Delivery a.delivery.now _ k.delivery (held)) in
+    (k, r.0, omega (arith, w), sym (there_is) ∙ not-false _ c.if-not-are_there.false-raw)
 
 pub returns : goal.returns
 returns c = c.are_all_sound.ensures

@@ -18,12 +18,6 @@ use Rattle.sound_behind.specs.Behind.{behind}
 use Rattle.sound_behind.proofs.TimetblsLaws.{by_number, some_rows_told, rows_refused, frame_refused, services_are, blocks_refused, services_distinct, by_frame, wrong, right}
 use Rattle.sound_behind.proofs.judge_blocks.Goals as goal
 
--- the first row is a first line's
-first_tag : (c : goal.Else-word_or_zero-ne-AT) → tag (row_at (row_width Timetbls) c.args.t.now 0) ≡ at
-first_tag c =
-    let a = c.args in
-    sym (tag_first Timetbls a.t.now) ∙ sym c.word_or_zero.ensures ∙ c.if-word_or_zero-ne-AT.false
-
 pub returns-then-word_or_zero-ne-AT : goal.returns-then-word_or_zero-ne-AT
 returns-then-word_or_zero-ne-AT c =
     let a = c.args in
@@ -36,14 +30,18 @@ returns-then-word_or_zero-ne-AT c =
 
 pub are_blocks_sound-requires : goal.are_blocks_sound-requires
 are_blocks_sound-requires c =
-    (omega (arith, c.requires.0), no_key Timetbls _ (first_tag c))
+    let first_tag : tag (row_at (row_width Timetbls) c.args.t.now 0) ≡ at = let a = c.args in
+    sym (tag_first Timetbls a.t.now) ∙ sym c.word_or_zero.ensures ∙ c.if-word_or_zero-ne-AT.false in
+    (omega (arith, c.requires.0), no_key Timetbls _ (first_tag))
 
 pub returns-in_default : goal.returns-in_default
 returns-in_default c =
+    let first_tag : tag (row_at (row_width Timetbls) c.args.t.now 0) ≡ at = let a = c.args in
+    sym (tag_first Timetbls a.t.now) ∙ sym c.word_or_zero.ensures ∙ c.if-word_or_zero-ne-AT.false in
     let a = c.args in
     wrong _ _ _ _ _ a.form a.delivery.now a.t.now _
     (λ x agree.
-    blocks_refused a.t.now (length (rows_in Timetbls a.t.now)) refl c.requires.0 a.form a.delivery.now x (first_tag c.before.before.before.before.before.before)
+    blocks_refused a.t.now (length (rows_in Timetbls a.t.now)) refl c.requires.0 a.form a.delivery.now x (first_tag)
     (sym (ap are_sound c.in_default.is) ∙ c.are_blocks_sound.ensures.0.says x agree))
 
 pub overflow_mul-used : goal.overflow_mul-used
@@ -66,18 +64,18 @@ are_rows_framed_by-requires c =
     let n = c.are_blocks_sound.ensures.0.rows _ _ _ c.in-Sound.is in
     (some_rows_told _ _ n c.requires.0, n, c.requires.1)
 
--- the rest of the frame, where the blocks are sound and unused places are zero
-frame_is : (c : goal.After-are_rows_framed_by) (x : Context)
-    → BlockKeysAmong x c.args.counts c.args.companies.now
+pub returns-then-not-are_rows_framed_by : goal.returns-then-not-are_rows_framed_by
+returns-then-not-are_rows_framed_by c =
+    let first_tag : tag (row_at (row_width Timetbls) c.args.t.now 0) ≡ at = let a = c.args in
+    sym (tag_first Timetbls a.t.now) ∙ sym c.word_or_zero.ensures ∙ c.if-word_or_zero-ne-AT.false in
+    let frame_is : (x : Context) → BlockKeysAmong x c.args.counts c.args.companies.now
     c.args.modes.now c.args.stations.now
     c.args.footnotes.now
     → c.are_rows_framed_by.result
     ≡ (framed c.args.form c.args.delivery.now Timetbls
     c.args.t.now
-    && behind x Timetbls (rows_in Timetbls c.args.t.now))
-frame_is c x agree =
-    let a = c.args in
-    let q = first_tag c.before.before.before.before.before.before.before.before.before.before in
+    && behind x Timetbls (rows_in Timetbls c.args.t.now)) = λ x agree. let a = c.args in
+    let q = first_tag in
     let is = c.in-Sound.is in
     let n = c.are_blocks_sound.ensures.0.rows _ _ _ is in
     let some = some_rows_told _ _ n c.requires.0 in
@@ -86,18 +84,34 @@ frame_is c x agree =
     c.are_rows_framed_by.ensures
     (services_distinct a.t.now _ n some a.form a.delivery.now x q y)
     (told.rise _ _ _ is ∙ ap rising (services_are a.t.now _ n some a.form a.delivery.now x q))
-    ∙ by_frame a.t.now _ n some a.form a.delivery.now x q y (sym c.zero_from.ensures ∙ not-false _ c.if-not-zero_from.false-raw)
-
-pub returns-then-not-are_rows_framed_by : goal.returns-then-not-are_rows_framed_by
-returns-then-not-are_rows_framed_by c =
+    ∙ by_frame a.t.now _ n some a.form a.delivery.now x q y (sym c.zero_from.ensures ∙ not-false _ c.if-not-zero_from.false-raw) in
     let a = c.args in
-    wrong _ _ _ _ _ a.form a.delivery.now a.t.now _ (λ x agree. sym (not-true _ c.if-not-are_rows_framed_by.true-raw) ∙ frame_is c.before x agree)
+    wrong _ _ _ _ _ a.form a.delivery.now a.t.now _ (λ x agree. sym (not-true _ c.if-not-are_rows_framed_by.true-raw) ∙ frame_is x agree)
 
 pub returns : goal.returns
 returns c =
+    let first_tag : tag (row_at (row_width Timetbls) c.args.t.now 0) ≡ at = let a = c.args in
+    sym (tag_first Timetbls a.t.now) ∙ sym c.word_or_zero.ensures ∙ c.if-word_or_zero-ne-AT.false in
+    let frame_is : (x : Context) → BlockKeysAmong x c.args.counts c.args.companies.now
+    c.args.modes.now c.args.stations.now
+    c.args.footnotes.now
+    → c.are_rows_framed_by.result
+    ≡ (framed c.args.form c.args.delivery.now Timetbls
+    c.args.t.now
+    && behind x Timetbls (rows_in Timetbls c.args.t.now)) = λ x agree. let a = c.args in
+    let q = first_tag in
+    let is = c.in-Sound.is in
+    let n = c.are_blocks_sound.ensures.0.rows _ _ _ is in
+    let some = some_rows_told _ _ n c.requires.0 in
+    let told = by_number _ _ _ _ _ a.t.now _ _ n _ _ c.are_blocks_sound.ensures.0 in
+    let y = sym (ap are_sound is) ∙ told.says x agree in
+    c.are_rows_framed_by.ensures
+    (services_distinct a.t.now _ n some a.form a.delivery.now x q y)
+    (told.rise _ _ _ is ∙ ap rising (services_are a.t.now _ n some a.form a.delivery.now x q))
+    ∙ by_frame a.t.now _ n some a.form a.delivery.now x q y (sym c.zero_from.ensures ∙ not-false _ c.if-not-zero_from.false-raw) in
     let a = c.args in
     let is = c.in-Sound.is in
     right _ _ _ _ _ a.form a.delivery.now a.t.now _ _ _
     (c.are_blocks_sound.ensures.0.rows _ _ _ is)
     (c.are_blocks_sound.ensures.0.index _ _ _ is)
-    (λ x agree. sym (not-false _ c.if-not-are_rows_framed_by.false-raw) ∙ frame_is c.before x agree)
+    (λ x agree. sym (not-false _ c.if-not-are_rows_framed_by.false-raw) ∙ frame_is x agree)

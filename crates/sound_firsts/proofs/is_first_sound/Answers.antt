@@ -13,14 +13,6 @@ use Rattle.tables.proofs.Widths.{widths}
 use Rattle.sound_firsts.proofs.FirstLaws.{five_words, kept_shape, first_by}
 use Rattle.sound_firsts.proofs.is_first_sound.Goals as goal
 
-wide : (s : goal.Start) → 6 ≤ length s.args.row.now
-wide s = omega (arith, (widths s.args.file).wide, s.requires.0)
-
-kept-words : (s : goal.Start) → 5 ≡ length (take 5 s.args.row.now)
-kept-words s =
-    let w = wide s in
-    sym (length-take-le 5 s.args.row.now (omega arith))
-
 pub returns-then-row-ne-AT : goal.returns-then-row-ne-AT
 returns-then-row-ne-AT c later u =
     let a = c.args in
@@ -28,29 +20,33 @@ returns-then-row-ne-AT c later u =
 
 pub is_shaped-requires : goal.is_shaped-requires
 is_shaped-requires c =
-    let w = wide c.before.before.before.before in
+    let wide : 6 ≤ length c.args.row.now = omega (arith, (widths c.args.file).wide, c.requires.0) in
+    let w = wide in
     rw (length-take-le 5 c.args.row.now (omega arith)) (five_words _)
 
 pub returns-then-not-is_shaped : goal.returns-then-not-is_shaped
 returns-then-not-is_shaped c later u =
+    let wide : 6 ≤ length c.args.row.now = omega (arith, (widths c.args.file).wide, c.requires.0) in
     let a = c.args in
-    let w = wide c.before.before.before.before.before.before in
+    let w = wide in
     first_by a.file a.delivery.now a.row.now later true false _ _ _ _ false (eq-eqb _ _ c.if-row-ne-AT.false)
     (sym (c.is_shaped.ensures ∙ kept_shape _ a.row.now (omega arith)) ∙ not-true _ c.if-not-is_shaped.true-raw)
     refl refl refl refl refl
 
 pub returns-then-not-first_means : goal.returns-then-not-first_means
 returns-then-not-first_means c later u =
+    let wide : 6 ≤ length c.args.row.now = omega (arith, (widths c.args.file).wide, c.requires.0) in
     let a = c.args in
-    let w = wide c.before.before.before.before.before.before.before.before in
+    let w = wide in
     first_by a.file a.delivery.now a.row.now later true true false _ _ _ false (eq-eqb _ _ c.if-row-ne-AT.left)
     (sym (c.is_shaped.ensures ∙ kept_shape _ a.row.now (omega arith)) ∙ not-false _ c.if-not-is_shaped.false-raw)
     (sym c.first_means.ensures ∙ not-true _ c.if-not-first_means.true-raw) refl refl refl refl
 
 pub returns-then-not-same_words : goal.returns-then-not-same_words
 returns-then-not-same_words c later u =
+    let wide : 6 ≤ length c.args.row.now = omega (arith, (widths c.args.file).wide, c.requires.0) in
     let a = c.args in
-    let w = wide c.before.before.before.before.before.before.before.before.before.before in
+    let w = wide in
     first_by a.file a.delivery.now a.row.now later true true true false _ _ false (eq-eqb _ _ c.if-row-ne-AT.left)
     (sym (c.is_shaped.ensures ∙ kept_shape _ a.row.now (omega arith)) ∙ not-false _ c.if-not-is_shaped.left)
     (sym c.first_means.ensures ∙ not-false _ c.if-not-first_means.false-raw)
@@ -58,8 +54,9 @@ returns-then-not-same_words c later u =
 
 pub returns-then-not-is_flag : goal.returns-then-not-is_flag
 returns-then-not-is_flag c later u =
+    let wide : 6 ≤ length c.args.row.now = omega (arith, (widths c.args.file).wide, c.requires.0) in
     let a = c.args in
-    let w = wide c.before.before.before.before.before.before.before.before.before.before.before.before.before in
+    let w = wide in
     first_by a.file a.delivery.now a.row.now later true true true true false _ false (eq-eqb _ _ c.if-row-ne-AT.left)
     (sym (c.is_shaped.ensures ∙ kept_shape _ a.row.now (omega arith)) ∙ not-false _ c.if-not-is_shaped.left)
     (sym c.first_means.ensures ∙ not-false _ c.if-not-first_means.left)
@@ -68,8 +65,9 @@ returns-then-not-is_flag c later u =
 
 pub returns : goal.returns
 returns c later u =
+    let wide : 6 ≤ length c.args.row.now = omega (arith, (widths c.args.file).wide, c.requires.0) in
     let a = c.args in
-    let w = wide c.before.before.before.before.before.before.before.before.before.before.before.before.before.before in
+    let w = wide in
     first_by a.file a.delivery.now a.row.now later true true true true true _ _ (eq-eqb _ _ c.if-row-ne-AT.left)
     (sym (c.is_shaped.ensures ∙ kept_shape _ a.row.now (omega arith)) ∙ not-false _ c.if-not-is_shaped.left)
     (sym c.first_means.ensures ∙ not-false _ c.if-not-first_means.left)
@@ -78,19 +76,33 @@ returns c later u =
     refl c.is_right_behind.ensures
 
 pub bounds-row-0 : goal.bounds-row-0
-bounds-row-0 c = omega (arith, wide c.before.before.before)
+bounds-row-0 c =
+    let wide : 6 ≤ length c.args.row.now = omega (arith, (widths c.args.file).wide, c.requires.0) in
+    omega (arith, wide)
 
 pub slice_bounds-is_shaped-end : goal.slice_bounds-is_shaped-end
-slice_bounds-is_shaped-end c = kept-words c.before.before.before.before
+slice_bounds-is_shaped-end c =
+    let wide : 6 ≤ length c.args.row.now = omega (arith, (widths c.args.file).wide, c.requires.0) in
+    let kept-words : 5 ≡ length (take 5 c.args.row.now) = let w = wide in
+    sym (length-take-le 5 c.args.row.now (omega arith)) in
+    kept-words
 
 pub first_means-requires : goal.first_means-requires
-first_means-requires c = omega (arith, wide c.before.before.before.before.before.before)
+first_means-requires c =
+    let wide : 6 ≤ length c.args.row.now = omega (arith, (widths c.args.file).wide, c.requires.0) in
+    omega (arith, wide)
 
 pub slice_bounds-same_words-end : goal.slice_bounds-same_words-end
-slice_bounds-same_words-end c = kept-words c.before.before.before.before.before.before.before.before
+slice_bounds-same_words-end c =
+    let wide : 6 ≤ length c.args.row.now = omega (arith, (widths c.args.file).wide, c.requires.0) in
+    let kept-words : 5 ≡ length (take 5 c.args.row.now) = let w = wide in
+    sym (length-take-le 5 c.args.row.now (omega arith)) in
+    kept-words
 
 pub slice_bounds-same_words-end-2 : goal.slice_bounds-same_words-end-2
 slice_bounds-same_words-end-2 c = sym (length-take-le 5 c.args.delivery.now c.requires.1)
 
 pub bounds-row-5 : goal.bounds-row-5
-bounds-row-5 c = omega (arith, wide c.before.before.before.before.before.before.before.before.before.before.before)
+bounds-row-5 c =
+    let wide : 6 ≤ length c.args.row.now = omega (arith, (widths c.args.file).wide, c.requires.0) in
+    omega (arith, wide)

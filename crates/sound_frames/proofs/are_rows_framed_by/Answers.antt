@@ -9,21 +9,6 @@ use Rattle.walks.proofs.TableLaws.{inside, first_inside, words_first, first_wide
 use Rattle.sound_frames.proofs.FrameLaws.{not_sound, by_size}
 use Rattle.sound_frames.proofs.are_rows_framed_by.Goals as goal
 
--- the first row, told by its own test
-first_is : (c : goal.After-is_first_sound)
-    → c.args.rise
-    ≡ rising (keys_of c.args.file
-    (rows_between (row_width c.args.file) c.args.t.now 1 c.args.used))
-    → c.is_first_sound.result
-    ≡ sound_first c.args.file c.args.delivery.now
-    (row_at (row_width c.args.file) c.args.t.now 0)
-    (rows_between (row_width c.args.file) c.args.t.now 1 c.args.used)
-first_is c rise =
-    let a = c.args in
-    let later = rows_between (row_width a.file) a.t.now 1 a.used in
-    c.is_first_sound.ensures later rise
-    ∙ ap (λ r. sound_first a.file a.delivery.now r later) (words_first a.file a.t.now c.row_width-w.result c.row_width-w.ensures.is)
-
 pub slice_bounds-is_first_sound-end : goal.slice_bounds-is_first_sound-end
 slice_bounds-is_first_sound-end c =
     let a = c.args in
@@ -39,9 +24,19 @@ is_first_sound-requires c =
 
 pub returns-then-not-is_first_sound : goal.returns-then-not-is_first_sound
 returns-then-not-is_first_sound c distinct rise =
+    let first_is : c.args.rise
+    ≡ rising (keys_of c.args.file
+    (rows_between (row_width c.args.file) c.args.t.now 1 c.args.used))
+    → c.is_first_sound.result
+    ≡ sound_first c.args.file c.args.delivery.now
+    (row_at (row_width c.args.file) c.args.t.now 0)
+    (rows_between (row_width c.args.file) c.args.t.now 1 c.args.used) = λ rise. let a = c.args in
+    let later = rows_between (row_width a.file) a.t.now 1 a.used in
+    c.is_first_sound.ensures later rise
+    ∙ ap (λ r. sound_first a.file a.delivery.now r later) (words_first a.file a.t.now c.row_width-w.result c.row_width-w.ensures.is) in
     let a = c.args in
     not_sound a.file a.t.now a.used c.requires.1 a.form a.delivery.now c.requires.0
-    (sym (first_is c.before rise) ∙ not-true _ c.if-not-is_first_sound.true-raw)
+    (sym (first_is rise) ∙ not-true _ c.if-not-is_first_sound.true-raw)
 
 pub fits_limit-requires : goal.fits_limit-requires
 fits_limit-requires c =
@@ -50,7 +45,17 @@ fits_limit-requires c =
 
 pub returns : goal.returns
 returns c distinct rise =
+    let first_is : c.args.rise
+    ≡ rising (keys_of c.args.file
+    (rows_between (row_width c.args.file) c.args.t.now 1 c.args.used))
+    → c.is_first_sound.result
+    ≡ sound_first c.args.file c.args.delivery.now
+    (row_at (row_width c.args.file) c.args.t.now 0)
+    (rows_between (row_width c.args.file) c.args.t.now 1 c.args.used) = λ rise. let a = c.args in
+    let later = rows_between (row_width a.file) a.t.now 1 a.used in
+    c.is_first_sound.ensures later rise
+    ∙ ap (λ r. sound_first a.file a.delivery.now r later) (words_first a.file a.t.now c.row_width-w.result c.row_width-w.ensures.is) in
     let a = c.args in
     c.fits_limit.ensures
     ∙ by_size a.file a.t.now a.used c.requires.1 a.form a.delivery.now c.requires.0 distinct
-    (sym (first_is c.before rise) ∙ not-false _ c.if-not-is_first_sound.false-raw)
+    (sym (first_is rise) ∙ not-false _ c.if-not-is_first_sound.false-raw)

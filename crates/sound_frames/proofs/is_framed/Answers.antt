@@ -11,17 +11,6 @@ use Rattle.walks.proofs.TableLaws.{inside}
 use Rattle.sound_frames.proofs.FrameLaws.{not_zero, no_rows, some_rows}
 use Rattle.sound_frames.proofs.is_framed.Goals as goal
 
--- what the unused places are told to be
-zero_is : (c : goal.After-zero_from)
-    → c.zero_from.result ≡ all_zero (drop (c.args.used * row_width c.args.file) c.args.t.now)
-zero_is c =
-    let a = c.args in
-    c.zero_from.ensures ∙ ap (λ w. all_zero (drop (a.used * w) a.t.now)) c.row_width-w.ensures.is
-
--- all before it were sound
-going : (c : goal.Else-not-so_far) → c.args.so_far ≡ true
-going c = not-false _ c.if-not-so_far.false-raw
-
 pub returns-then-not-so_far : goal.returns-then-not-so_far
 returns-then-not-so_far c =
     let a = c.args in
@@ -36,19 +25,28 @@ overflow_mul-used c =
 
 pub returns-then-not-zero_from : goal.returns-then-not-zero_from
 returns-then-not-zero_from c =
+    let zero_is : c.zero_from.result ≡ all_zero (drop (c.args.used * row_width c.args.file) c.args.t.now) = let a = c.args in
+    c.zero_from.ensures ∙ ap (λ w. all_zero (drop (a.used * w) a.t.now)) c.row_width-w.ensures.is in
+    let going : c.args.so_far ≡ true = not-false _ c.if-not-so_far.false-raw in
     let a = c.args in
-    not_zero a.file a.t.now a.used c.requires.0 a.form a.delivery.now (sym (zero_is c) ∙ not-true _ c.if-not-zero_from.true-raw)
-    ∙ ap (λ b. b && framed a.form a.delivery.now a.file a.t.now) (sym (going c.before.before))
+    not_zero a.file a.t.now a.used c.requires.0 a.form a.delivery.now (sym (zero_is) ∙ not-true _ c.if-not-zero_from.true-raw)
+    ∙ ap (λ b. b && framed a.form a.delivery.now a.file a.t.now) (sym (going))
 
 pub returns-then-used-eq0 : goal.returns-then-used-eq0
 returns-then-used-eq0 c =
+    let zero_is : c.zero_from.result ≡ all_zero (drop (c.args.used * row_width c.args.file) c.args.t.now) = let a = c.args in
+    c.zero_from.ensures ∙ ap (λ w. all_zero (drop (a.used * w) a.t.now)) c.row_width-w.ensures.is in
+    let going : c.args.so_far ≡ true = not-false _ c.if-not-so_far.false-raw in
     let a = c.args in
-    no_rows a.file a.t.now a.used c.requires.0 a.form a.delivery.now (sym (zero_is c) ∙ not-false _ c.if-not-zero_from.false-raw) c.if-used-eq0.true
-    ∙ ap (λ b. b && framed a.form a.delivery.now a.file a.t.now) (sym (going c.before.before))
+    no_rows a.file a.t.now a.used c.requires.0 a.form a.delivery.now (sym (zero_is) ∙ not-false _ c.if-not-zero_from.false-raw) c.if-used-eq0.true
+    ∙ ap (λ b. b && framed a.form a.delivery.now a.file a.t.now) (sym (going))
 
 pub returns : goal.returns
 returns c =
+    let zero_is : c.zero_from.result ≡ all_zero (drop (c.args.used * row_width c.args.file) c.args.t.now) = let a = c.args in
+    c.zero_from.ensures ∙ ap (λ w. all_zero (drop (a.used * w) a.t.now)) c.row_width-w.ensures.is in
+    let going : c.args.so_far ≡ true = not-false _ c.if-not-so_far.false-raw in
     let a = c.args in
     c.are_rows_framed.ensures
-    ∙ some_rows a.file a.t.now a.used c.requires.0 a.form a.delivery.now (sym (zero_is c) ∙ not-false _ c.if-not-zero_from.false-raw)
-    ∙ ap (λ b. b && framed a.form a.delivery.now a.file a.t.now) (sym (going c.before.before))
+    ∙ some_rows a.file a.t.now a.used c.requires.0 a.form a.delivery.now (sym (zero_is) ∙ not-false _ c.if-not-zero_from.false-raw)
+    ∙ ap (λ b. b && framed a.form a.delivery.now a.file a.t.now) (sym (going))

@@ -10,11 +10,6 @@ use Rattle.sound_row_walks.proofs.UsedLaws.{room_ends, rows_end, row_used}
 use Rattle.sound_row_walks.proofs.WalkLaws.{Walking, walk_starts, walk_ends, walk_stops, walk_falls, walk_goes_on}
 use Rattle.sound_row_walks.proofs.walk_rows.Goals as goal
 
--- a row whose first word is not 0 is in use
-in_use_lem : (u : goal.Else-word_at-eq0) → u.loop-i.i < used_in u.args.t.now
-in_use_lem u =
-    row_used u.args.t.now u.loop-i.i u.loop-i.invariant.high u.loop-i-test.true _ u.word_at.ensures u.if-word_at-eq0.false
-
 pub loop-i-init : goal.loop-i-init
 loop-i-init c =
     walk_starts _ _ _ _ _ c.args.t.now c.args.from _ c.requires
@@ -32,7 +27,8 @@ is_next_head-requires c = row_in_table (row_width Timetbls) c.loop-i.i _ c.loop-
 
 pub returns-then-is_next_head : goal.returns-then-is_next_head
 returns-then-is_next_head c =
-    walk_stops _ _ _ _ _ c.args.t.now c.args.from _ c.requires c.loop-i.i c.loop-i.block c.loop-i.invariant (in_use_lem c.before) _
+    let in_use_lem : c.loop-i.i < used_in c.args.t.now = row_used c.args.t.now c.loop-i.i c.loop-i.invariant.high c.loop-i-test.true _ c.word_at.ensures c.if-word_at-eq0.false in
+    walk_stops _ _ _ _ _ c.args.t.now c.args.from _ c.requires c.loop-i.i c.loop-i.block c.loop-i.invariant (in_use_lem) _
     c.is_next_head.ensures c.if-is_next_head.true
 
 pub overflow_sub-line : goal.overflow_sub-line
@@ -47,12 +43,14 @@ after_at-requires c =
 
 pub returns-in_default : goal.returns-in_default
 returns-in_default c =
-    walk_falls _ _ _ _ _ c.args.t.now c.args.from _ c.requires c.loop-i.i c.loop-i.block c.loop-i.invariant (in_use_lem c.before) _
+    let in_use_lem : c.loop-i.i < used_in c.args.t.now = row_used c.args.t.now c.loop-i.i c.loop-i.invariant.high c.loop-i-test.true _ c.word_at.ensures c.if-word_at-eq0.false in
+    walk_falls _ _ _ _ _ c.args.t.now c.args.from _ c.requires c.loop-i.i c.loop-i.block c.loop-i.invariant (in_use_lem) _
     c.is_next_head.ensures c.if-is_next_head.false _ c.after_at.ensures c.in_default.is
 
 pub loop-i-preserved : goal.loop-i-preserved
 loop-i-preserved c =
-    walk_goes_on _ _ _ _ _ c.args.t.now c.args.from _ c.requires c.loop-i.i c.loop-i.block c.loop-i.invariant (in_use_lem c.before) _
+    let in_use_lem : c.loop-i.i < used_in c.args.t.now = row_used c.args.t.now c.loop-i.i c.loop-i.invariant.high c.loop-i-test.true _ c.word_at.ensures c.if-word_at-eq0.false in
+    walk_goes_on _ _ _ _ _ c.args.t.now c.args.from _ c.requires c.loop-i.i c.loop-i.block c.loop-i.invariant (in_use_lem) _
     c.is_next_head.ensures c.if-is_next_head.false _ c.after_at.ensures _ c.in-Stands.is
 
 pub returns : goal.returns

@@ -17,16 +17,6 @@ use Rattle.sound_blocks.proofs.BlockLaws.{rises}
 use Rattle.sound_timetbls.proofs.ServiceLaws.{Going, going_first, all_gone, going_last, row_astray, block_unsound, service_at, service_came, going_on}
 use Rattle.sound_timetbls.proofs.are_blocks_sound.Goals as goal
 
--- a row whose first word is not 0 is in use, and begins a block where that is a `#`
-in_use_lem : (u : goal.Else-tag-eq0) → u.loop-i.i < used_in u.args.t.now
-in_use_lem u =
-    row_used u.args.t.now u.loop-i.i u.loop-i.invariant.left.high u.loop-i-test.true _ u.word_at-tag.ensures
-    u.if-tag-eq0.false
-
-is-head : (h : goal.Else-tag-ne-HASH)
-    → is_hash_row (row_at (row_width Timetbls) h.args.t.now h.loop-i.i) ≡ true
-is-head h = sym (ap (λ k. eqb k hash) h.word_at-tag.ensures) ∙ eq-eqb _ hash h.if-tag-ne-HASH.false
-
 pub loop-i-init : goal.loop-i-init
 loop-i-init c =
     let a = c.args in
@@ -35,60 +25,65 @@ loop-i-init c =
 pub word_at-tag-requires : goal.word_at-tag-requires
 word_at-tag-requires c = (omega arith, row_in_table (row_width Timetbls) c.loop-i.i _ c.loop-i-test.true)
 
--- the rows in use end at a row whose first word is 0, or with the room
-ends-here : (z : goal.Then-tag-eq0) → used_in z.args.t.now ≤ z.loop-i.i
-ends-here z =
-    rows_end z.args.t.now z.loop-i.i z.loop-i.invariant.left.high z.loop-i-test.true _ z.word_at-tag.ensures z.if-tag-eq0.true
-
-ends-with-room : (x : goal.After-loop-i) → used_in x.args.t.now ≤ x.loop-i.i
-ends-with-room x =
-    room_ends x.args.t.now x.loop-i.i x.loop-i.invariant.left.high x.loop-i-test.false
-
 pub tell_services-requires : goal.tell_services-requires
 tell_services-requires c =
+    let ends-here : used_in c.args.t.now ≤ c.loop-i.i = rows_end c.args.t.now c.loop-i.i c.loop-i.invariant.left.high c.loop-i-test.true _ c.word_at-tag.ensures c.if-tag-eq0.true in
     let a = c.args in
-    all_gone _ _ _ _ _ a.t.now _ a.places.now c.loop-i.done c.loop-i.run c.loop-i.i c.loop-i.places c.loop-i.invariant (ends-here c)
+    all_gone _ _ _ _ _ a.t.now _ a.places.now c.loop-i.done c.loop-i.run c.loop-i.i c.loop-i.places c.loop-i.invariant (ends-here)
     c.requires.1
 
 pub returns-then-tag-eq0 : goal.returns-then-tag-eq0
 returns-then-tag-eq0 c =
+    let ends-here : used_in c.args.t.now ≤ c.loop-i.i = rows_end c.args.t.now c.loop-i.i c.loop-i.invariant.left.high c.loop-i-test.true _ c.word_at-tag.ensures c.if-tag-eq0.true in
     let a = c.args in (
       going_last _ _ _ _ _ a.t.now _ a.places.now c.loop-i.done c.loop-i.run c.loop-i.i c.loop-i.places c.loop-i.invariant
-          (ends-here c) _ _ c.tell_services.ensures.0,
+          (ends-here) _ _ c.tell_services.ensures.0,
       c.tell_services.ensures.1 ∙ c.loop-i.invariant.wide,
     )
 
 pub returns-then-tag-ne-HASH : goal.returns-then-tag-ne-HASH
 returns-then-tag-ne-HASH c =
+    let in_use_lem : c.loop-i.i < used_in c.args.t.now = row_used c.args.t.now c.loop-i.i c.loop-i.invariant.left.high c.loop-i-test.true _ c.word_at-tag.ensures
+    c.if-tag-eq0.false in
     let a = c.args in (
-      row_astray _ _ _ _ _ a.t.now _ a.places.now c.loop-i.done c.loop-i.run c.loop-i.i c.loop-i.places c.loop-i.invariant (in_use_lem c)
+      row_astray _ _ _ _ _ a.t.now _ a.places.now c.loop-i.done c.loop-i.run c.loop-i.i c.loop-i.places c.loop-i.invariant (in_use_lem)
           (sym (ap (λ k. eqb k hash) c.word_at-tag.ensures) ∙ ne_eqb _ hash c.if-tag-ne-HASH.true),
       c.loop-i.invariant.wide,
     )
 
 pub test_block-requires : goal.test_block-requires
 test_block-requires c =
-    record { some = in_use_lem c; inside = inside Timetbls c.args.t.now _ refl }
+    let in_use_lem : c.loop-i.i < used_in c.args.t.now = row_used c.args.t.now c.loop-i.i c.loop-i.invariant.left.high c.loop-i-test.true _ c.word_at-tag.ensures
+    c.if-tag-eq0.false in
+    record { some = in_use_lem; inside = inside Timetbls c.args.t.now _ refl }
 
 pub returns-in_default : goal.returns-in_default
 returns-in_default c =
+    let in_use_lem : c.loop-i.i < used_in c.args.t.now = row_used c.args.t.now c.loop-i.i c.loop-i.invariant.left.high c.loop-i-test.true _ c.word_at-tag.ensures
+    c.if-tag-eq0.false in
+    let is-head : is_hash_row (row_at (row_width Timetbls) c.args.t.now c.loop-i.i) ≡ true = sym (ap (λ k. eqb k hash) c.word_at-tag.ensures) ∙ eq-eqb _ hash c.if-tag-ne-HASH.false in
     let a = c.args in (
-      block_unsound _ _ _ _ _ a.t.now _ a.places.now c.loop-i.done c.loop-i.run c.loop-i.i c.loop-i.places c.loop-i.invariant (in_use_lem c.before)
-          (is-head c.before.before.before) _ c.test_block.ensures c.in_default.is,
+      block_unsound _ _ _ _ _ a.t.now _ a.places.now c.loop-i.done c.loop-i.run c.loop-i.i c.loop-i.places c.loop-i.invariant (in_use_lem)
+          (is-head) _ c.test_block.ensures c.in_default.is,
       c.loop-i.invariant.wide,
     )
 
 pub index_service-requires : goal.index_service-requires
 index_service-requires c =
+    let in_use_lem : c.loop-i.i < used_in c.args.t.now = row_used c.args.t.now c.loop-i.i c.loop-i.invariant.left.high c.loop-i-test.true _ c.word_at-tag.ensures
+    c.if-tag-eq0.false in
     let a = c.args in
-    service_at _ _ _ _ _ a.t.now _ a.places.now c.loop-i.done c.loop-i.run c.loop-i.i c.loop-i.places c.loop-i.invariant (in_use_lem c.before)
+    service_at _ _ _ _ _ a.t.now _ a.places.now c.loop-i.done c.loop-i.run c.loop-i.i c.loop-i.places c.loop-i.invariant (in_use_lem)
     c.requires.1
 
 pub returns-in_default-index_service : goal.returns-in_default-index_service
 returns-in_default-index_service c =
+    let in_use_lem : c.loop-i.i < used_in c.args.t.now = row_used c.args.t.now c.loop-i.i c.loop-i.invariant.left.high c.loop-i-test.true _ c.word_at-tag.ensures
+    c.if-tag-eq0.false in
+    let is-head : is_hash_row (row_at (row_width Timetbls) c.args.t.now c.loop-i.i) ≡ true = sym (ap (λ k. eqb k hash) c.word_at-tag.ensures) ∙ eq-eqb _ hash c.if-tag-ne-HASH.false in
     let a = c.args in
-    service_came _ _ _ _ _ a.t.now _ a.places.now c.loop-i.done c.loop-i.run c.loop-i.i c.loop-i.places c.loop-i.invariant (in_use_lem c.before)
-    (is-head c.before.before.before.before.before.before.before.before.before.before) _ c.test_block.ensures _ c.in-Sound.is _ _ c.index_service.ensures c.in_default-index_service.is
+    service_came _ _ _ _ _ a.t.now _ a.places.now c.loop-i.done c.loop-i.run c.loop-i.i c.loop-i.places c.loop-i.invariant (in_use_lem)
+    (is-head) _ c.test_block.ensures _ c.in-Sound.is _ _ c.index_service.ensures c.in_default-index_service.is
 
 pub overflow_add-done : goal.overflow_add-done
 overflow_add-done c =
@@ -96,27 +91,35 @@ overflow_add-done c =
 
 pub loop-i-smaller : goal.loop-i-smaller
 loop-i-smaller c =
+    let in_use_lem : c.loop-i.i < used_in c.args.t.now = row_used c.args.t.now c.loop-i.i c.loop-i.invariant.left.high c.loop-i-test.true _ c.word_at-tag.ensures
+    c.if-tag-eq0.false in
+    let is-head : is_hash_row (row_at (row_width Timetbls) c.args.t.now c.loop-i.i) ≡ true = sym (ap (λ k. eqb k hash) c.word_at-tag.ensures) ∙ eq-eqb _ hash c.if-tag-ne-HASH.false in
     let a = c.args in
-    let more = rises _ _ _ _ _ a.t.now _ c.loop-i.i c.loop-i.invariant.left (in_use_lem c.before) (is-head c.before.before.before.before.before.before.before.before.before.before.before) _ c.test_block.ensures _
+    let more = rises _ _ _ _ _ a.t.now _ c.loop-i.i c.loop-i.invariant.left (in_use_lem) (is-head) _ c.test_block.ensures _
     c.in-Sound.is in
     omega (arith, more, c.loop-i-test.taken)
 
 pub loop-i-preserved : goal.loop-i-preserved
 loop-i-preserved c =
+    let in_use_lem : c.loop-i.i < used_in c.args.t.now = row_used c.args.t.now c.loop-i.i c.loop-i.invariant.left.high c.loop-i-test.true _ c.word_at-tag.ensures
+    c.if-tag-eq0.false in
+    let is-head : is_hash_row (row_at (row_width Timetbls) c.args.t.now c.loop-i.i) ≡ true = sym (ap (λ k. eqb k hash) c.word_at-tag.ensures) ∙ eq-eqb _ hash c.if-tag-ne-HASH.false in
     let a = c.args in
-    going_on _ _ _ _ _ a.t.now _ a.places.now c.loop-i.done c.loop-i.run c.loop-i.i c.loop-i.places c.loop-i.invariant (in_use_lem c.before)
-    (is-head c.before.before.before.before.before.before.before.before.before.before.before) _ c.test_block.ensures _ c.in-Sound.is _ _ c.index_service.ensures _ c.in-Goes.is
+    going_on _ _ _ _ _ a.t.now _ a.places.now c.loop-i.done c.loop-i.run c.loop-i.i c.loop-i.places c.loop-i.invariant (in_use_lem)
+    (is-head) _ c.test_block.ensures _ c.in-Sound.is _ _ c.index_service.ensures _ c.in-Goes.is
 
 pub tell_services-requires-2 : goal.tell_services-requires-2
 tell_services-requires-2 c =
+    let ends-with-room : used_in c.args.t.now ≤ c.loop-i.i = room_ends c.args.t.now c.loop-i.i c.loop-i.invariant.left.high c.loop-i-test.false in
     let a = c.args in
-    all_gone _ _ _ _ _ a.t.now _ a.places.now c.loop-i.done c.loop-i.run c.loop-i.i c.loop-i.places c.loop-i.invariant (ends-with-room c)
+    all_gone _ _ _ _ _ a.t.now _ a.places.now c.loop-i.done c.loop-i.run c.loop-i.i c.loop-i.places c.loop-i.invariant (ends-with-room)
     c.requires.1
 
 pub returns : goal.returns
 returns c =
+    let ends-with-room : used_in c.args.t.now ≤ c.loop-i.i = room_ends c.args.t.now c.loop-i.i c.loop-i.invariant.left.high c.loop-i-test.false in
     let a = c.args in (
       going_last _ _ _ _ _ a.t.now _ a.places.now c.loop-i.done c.loop-i.run c.loop-i.i c.loop-i.places c.loop-i.invariant
-          (ends-with-room c) _ _ c.tell_services-2.ensures.0,
+          (ends-with-room) _ _ c.tell_services-2.ensures.0,
       c.tell_services-2.ensures.1 ∙ c.loop-i.invariant.wide,
     )

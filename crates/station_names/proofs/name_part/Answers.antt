@@ -9,26 +9,28 @@ use Rattle.station_names.specs.Names.{name_from, name_part}
 use Rattle.parts.proofs.SeekLaws.{wants_station}
 use Rattle.station_names.proofs.name_part.Goals as goal
 
-inside : (c : goal.In-From-2) → c.in-From.i + 73 ≤ length c.args.stations.now
-inside c = (rw c.in-From.is at c.seek_after.ensures.within).1
-
-is-part : (c : goal.After-seek_after) → name_from c.seek_after.result ≡ name_part c.args.stations.now c.args.short
-unfolding name_part
-is-part c =
-    let a = c.args in
-    ap name_from (c.seek_after.ensures.is ∙ ap (λ p. seek_after p 0 (lines a.stations.now)) (wants_station a.short))
-
 pub returns-in-From : goal.returns-in-From
+unfolding name_part
 returns-in-From c =
-    (ap name_from (sym c.in-From.is) ∙ is-part c.before.before, record { low = omega arith; high = inside c })
+    let is-part : name_from c.seek_after.result ≡ name_part c.args.stations.now c.args.short = let a = c.args in
+    ap name_from (c.seek_after.ensures.is ∙ ap (λ p. seek_after p 0 (lines a.stations.now)) (wants_station a.short)) in
+    let inside : c.in-From.i + 73 ≤ length c.args.stations.now = (rw c.in-From.is at c.seek_after.ensures.within).1 in
+    (ap name_from (sym c.in-From.is) ∙ is-part, record { low = omega arith; high = inside })
 
 pub returns-in-NotFound : goal.returns-in-NotFound
+unfolding name_part
 returns-in-NotFound c =
+    let is-part : name_from c.seek_after.result ≡ name_part c.args.stations.now c.args.short = let a = c.args in
+    ap name_from (c.seek_after.ensures.is ∙ ap (λ p. seek_after p 0 (lines a.stations.now)) (wants_station a.short)) in
     let none = c.no_part.ensures in
-    (none ∙ ap name_from (sym c.in-NotFound.is) ∙ is-part c.before.before, rw none (record { low = omega arith; high = omega arith }))
+    (none ∙ ap name_from (sym c.in-NotFound.is) ∙ is-part, rw none (record { low = omega arith; high = omega arith }))
 
 pub overflow_add-from : goal.overflow_add-from
-overflow_add-from c = omega (arith, inside c.before)
+overflow_add-from c =
+    let inside : c.in-From.i + 73 ≤ length c.args.stations.now = (rw c.in-From.is at c.seek_after.ensures.within).1 in
+    omega (arith, inside)
 
 pub overflow_add-to : goal.overflow_add-to
-overflow_add-to c = omega (arith, inside c.before)
+overflow_add-to c =
+    let inside : c.in-From.i + 73 ≤ length c.args.stations.now = (rw c.in-From.is at c.seek_after.ensures.within).1 in
+    omega (arith, inside)
