@@ -1,4 +1,6 @@
 // The check program's work: the files of a folder read, checked and reported.
+#![tactic(auto)]
+
 ghost use Rattle.std.specs.Prelude.{◌≡◌};
 ghost use Rattle.iff.specs.Files.{eleven};
 ghost use Rattle.iff_rules.specs.Load.{load_answer};
@@ -9,6 +11,8 @@ ghost use Rattle.checking.specs.Check.{room_for64, checked, FolderChecked};
 use folders::read_named;
 use iff::{Answer, File, GroupFile, RowFile, Verdict};
 use reports::Report;
+use std::fs;
+use std::fs::Files;
 
 // A file's bytes. One byte more is read, so that a larger file is told by its length.
 const MOST_BYTES: usize = 4096;
@@ -155,42 +159,77 @@ pub fn check_files(
 
 // Checks a folder, whose path is empty or ends in `/`, and puts the report's line at the front of a buffer. Each file is read under its own
 // name, and a file of 4,097 bytes or more counts as one of 4,097, which is larger than is allowed.
-pub fn check_folder(folder: &[u8], out: &mut [u8]) -> usize
+pub fn check_folder(files: &impl Files<File = fs::File>, folder: &[u8], out: &mut [u8]) -> usize
     ensures front { Front result out.new }
     ensures folder_checked { FolderChecked folder.now out.old out.new result }
 {
     let mut b_delivery = [0u8; READ_BYTES];
-    let n_delivery = read_named(File::Delivery, folder, &mut b_delivery);
+    let n_delivery = read_named(files, File::Delivery, folder, &mut b_delivery);
     let delivery = &b_delivery[..n_delivery];
     let mut b_company = [0u8; READ_BYTES];
-    let n_company = read_named(File::Rows(RowFile::Company), folder, &mut b_company);
+    let n_company = read_named(files, File::Rows(RowFile::Company), folder, &mut b_company);
     let company = &b_company[..n_company];
     let mut b_country = [0u8; READ_BYTES];
-    let n_country = read_named(File::Rows(RowFile::Country), folder, &mut b_country);
+    let n_country = read_named(files, File::Rows(RowFile::Country), folder, &mut b_country);
     let country = &b_country[..n_country];
     let mut b_trnsmode = [0u8; READ_BYTES];
-    let n_trnsmode = read_named(File::Rows(RowFile::Trnsmode), folder, &mut b_trnsmode);
+    let n_trnsmode = read_named(
+        files,
+        File::Rows(RowFile::Trnsmode),
+        folder,
+        &mut b_trnsmode,
+    );
     let trnsmode = &b_trnsmode[..n_trnsmode];
     let mut b_timezone = [0u8; READ_BYTES];
-    let n_timezone = read_named(File::Groups(GroupFile::Timezone), folder, &mut b_timezone);
+    let n_timezone = read_named(
+        files,
+        File::Groups(GroupFile::Timezone),
+        folder,
+        &mut b_timezone,
+    );
     let timezone = &b_timezone[..n_timezone];
     let mut b_stations = [0u8; READ_BYTES];
-    let n_stations = read_named(File::Rows(RowFile::Stations), folder, &mut b_stations);
+    let n_stations = read_named(
+        files,
+        File::Rows(RowFile::Stations),
+        folder,
+        &mut b_stations,
+    );
     let stations = &b_stations[..n_stations];
     let mut b_footnote = [0u8; READ_BYTES];
-    let n_footnote = read_named(File::Groups(GroupFile::Footnote), folder, &mut b_footnote);
+    let n_footnote = read_named(
+        files,
+        File::Groups(GroupFile::Footnote),
+        folder,
+        &mut b_footnote,
+    );
     let footnote = &b_footnote[..n_footnote];
     let mut b_timetbls = [0u8; READ_BYTES];
-    let n_timetbls = read_named(File::Timetbls, folder, &mut b_timetbls);
+    let n_timetbls = read_named(files, File::Timetbls, folder, &mut b_timetbls);
     let timetbls = &b_timetbls[..n_timetbls];
     let mut b_changes = [0u8; READ_BYTES];
-    let n_changes = read_named(File::Groups(GroupFile::Changes), folder, &mut b_changes);
+    let n_changes = read_named(
+        files,
+        File::Groups(GroupFile::Changes),
+        folder,
+        &mut b_changes,
+    );
     let changes = &b_changes[..n_changes];
     let mut b_xfootnote = [0u8; READ_BYTES];
-    let n_xfootnote = read_named(File::Groups(GroupFile::Xfootnote), folder, &mut b_xfootnote);
+    let n_xfootnote = read_named(
+        files,
+        File::Groups(GroupFile::Xfootnote),
+        folder,
+        &mut b_xfootnote,
+    );
     let xfootnote = &b_xfootnote[..n_xfootnote];
     let mut b_xchanges = [0u8; READ_BYTES];
-    let n_xchanges = read_named(File::Groups(GroupFile::Xchanges), folder, &mut b_xchanges);
+    let n_xchanges = read_named(
+        files,
+        File::Groups(GroupFile::Xchanges),
+        folder,
+        &mut b_xchanges,
+    );
     let xchanges = &b_xchanges[..n_xchanges];
     check_files(
         delivery, company, country, trnsmode, timezone, stations, footnote, timetbls, changes,

@@ -1,9 +1,11 @@
 // The check program: reads the eleven files by name from its folder and prints two lines.
-use libc::STDOUT_FILENO;
+#![tactic(auto)]
 
-fn main() {
-    io::write_all(STDOUT_FILENO, b"IFF 4.2.4\n");
+use std::io;
+
+fn main(rt: HostRuntime) -> io::Result<()> {
+    println!(rt; "IFF 4.2.4")?;
     let mut line = [0u8; 80];
-    let n = checking::check_folder(b"", &mut line);
-    io::write_all(STDOUT_FILENO, &line[..n]);
+    let n = checking::check_folder(&rt, b"", &mut line);
+    rt.write_all(&line[..n])
 }

@@ -1,4 +1,6 @@
 // The names of files, and the paths that the check program opens, put together as text in a lent buffer. What has no room is cut off.
+#![tactic(auto)]
+
 ghost use Rattle.iff.specs.Files.{row_file_name, group_file_name, file_name};
 ghost use Rattle.text_puts.specs.Texts.{Appended, Front};
 ghost use Rattle.name_puts.specs.Paths.{path_of};
@@ -6,6 +8,7 @@ ghost use Rattle.name_puts.specs.Paths.{path_of};
 use iff::{File, GroupFile, RowFile};
 use text_puts::put_bytes;
 
+#[tactic(auto, unfolding(iff::specs::Bytes::bytes))]
 fn put_row_name(out: &mut [u8], at: usize, file: RowFile) -> usize
     ensures { Appended out.old at (row_file_name file) out.new result }
 {
@@ -17,6 +20,7 @@ fn put_row_name(out: &mut [u8], at: usize, file: RowFile) -> usize
     }
 }
 
+#[tactic(auto, unfolding(iff::specs::Bytes::bytes))]
 fn put_group_name(out: &mut [u8], at: usize, file: GroupFile) -> usize
     ensures { Appended out.old at (group_file_name file) out.new result }
 {
@@ -29,6 +33,7 @@ fn put_group_name(out: &mut [u8], at: usize, file: GroupFile) -> usize
     }
 }
 
+#[tactic(auto, unfolding(iff::specs::Bytes::bytes))]
 pub fn put_name(out: &mut [u8], at: usize, file: File) -> usize
     ensures { Appended out.old at (file_name file) out.new result }
 {
@@ -41,6 +46,7 @@ pub fn put_name(out: &mut [u8], at: usize, file: File) -> usize
 }
 
 // The path of a file in a folder, at the front of a buffer.
+#[tactic(auto, using(text_puts::proofs::TextLaws::then, text_puts::proofs::TextLaws::at_front))]
 pub fn put_path(folder: &[u8], file: File, out: &mut [u8]) -> usize
     ensures front { Front result out.new }
     ensures appended { Appended out.old 0 (path_of folder.now file) out.new result }

@@ -1,14 +1,12 @@
 -- Laws of text put together in a buffer. Assumes nothing.
 use Prim.Native.Nat.{ℕ, zero, suc, ◌+◌, ◌-◌, ◌/◌, ◌<◌, ◌≤◌}
 use mathlib.Core.Path.{◌≡◌, refl, ap, sym, ◌∙◌}
-use mathlib.Core.List.{List, [], ◌∷◌, ◌++◌, append-nil, append_assoc}
-use mathlib.Core.Bool.{Bool, true, false, cond}
+use mathlib.Core.List.{List, [], ◌∷◌, ◌++◌, append_assoc}
 use native.Mathlib.Omega.{arith}
 use native.Mathlib.Numerals.{add-one}
 use borrow.Author.Tests.{lt-ltb, le-ltb}
-use lib.Dec.{ltb}
-use lib.ListN.{length, get_or, take, drop, set, length-set}
-use lib.Seq.{take_all, take-suc, take-nil, length-take-le}
+use lib.ListN.{length, take, set, length-set}
+use lib.Seq.{take-nil, length-take-le}
 use Rattle.text_puts.specs.Texts.{Appended, Front, last_digit, digits}
 
 -- what is cut off does not come back
@@ -16,16 +14,6 @@ cut_front : (n : ℕ) (a b : List ℕ) → take n (take n a ++ b) ≡ take n (a 
 cut_front zero a b = refl
 cut_front (suc n) [] b = refl
 cut_front (suc n) (x ∷ a) b = ap (λ (l : List ℕ). x ∷ l) (cut_front n a b)
-
-front_fits : (n : ℕ) (a : List ℕ) → take (length a) (take n a) ≡ take n a
-front_fits zero [] = refl
-front_fits zero (x ∷ a) = refl
-front_fits (suc n) [] = refl
-front_fits (suc n) (x ∷ a) = ap (λ (l : List ℕ). x ∷ l) (front_fits n a)
-
--- nothing put
-pub none_put : (t : List ℕ) (at : ℕ) → Appended t at [] t at
-none_put t at = record { text = sym (ap (take (length t)) (append-nil (take at t)) ∙ front_fits at t); kept = refl; within = λ h. h }
 
 -- a text at the front of a buffer
 pub at_front : {a b x : List ℕ} {j : ℕ} → Appended a 0 x b j → Front j b
@@ -64,20 +52,6 @@ no_room t at b h = record { text = full_front t at b h; kept = refl; within = λ
 pub record Putting (was : List ℕ) (at : ℕ) (text : List ℕ) (n : ℕ) (is : List ℕ) (to i : ℕ) : Type 0 where
   pub so_far : Appended was at (take i text) is to
   pub inside : i ≤ n
-
-pub put_none : (was text : List ℕ) (at n : ℕ) → Putting was at text n was at 0
-put_none was text at n = record { so_far = none_put was at; inside = omega arith }
-
-pub put_next : (was text : List ℕ) (at n : ℕ) (is next : List ℕ) (to then_to i b : ℕ) →
-    Putting was at text n is to i → n ≡ length text → i < n → b ≡ get_or text i 0 → Appended is to (b ∷ []) next then_to →
-    Putting was at text n next then_to (i + 1)
-put_next was text at n is next to then_to i b p e h q s =
-    let g : i < length text = omega arith in
-    record { so_far = rw (add-one, take-suc text i 0 g, ← q) (then p.so_far s); inside = omega arith }
-
-pub put_all : (was text : List ℕ) (at n : ℕ) (is : List ℕ) (to i : ℕ) →
-    Putting was at text n is to i → n ≡ length text → n ≤ i → Appended was at text is to
-put_all was text at n is to i p e h = rw (← (take_all i text (omega arith))) p.so_far
 
 -- A NUMBER'S DIGITS
 one_digit : (k n : ℕ) → n < 10 → digits k n ≡ last_digit n ∷ []

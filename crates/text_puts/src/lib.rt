@@ -1,9 +1,12 @@
 // Text put together in a lent buffer: bytes, and numbers in decimal. What has no room is cut off.
+#![tactic(auto)]
+
 ghost use Rattle.std.specs.Prelude.{◌≡◌, [], ◌∷◌};
 ghost use Rattle.text_puts.specs.Texts.{Appended, last_digit, digits};
 
 // TEXT
 
+#[tactic(auto, using(crate::proofs::TextLaws::byte_put, crate::proofs::TextLaws::no_room))]
 pub fn put_byte(out: &mut [u8], at: usize, b: u8) -> usize
     ensures { Appended out.old at (b ∷ []) out.new result }
 {
@@ -36,6 +39,7 @@ fn last_digit(n: u64) -> u8
 }
 
 // The digits before the last are those of a tenth, at most `depth` of them.
+#[tactic(auto, using(crate::proofs::TextLaws::only_digit, crate::proofs::TextLaws::small_number, crate::proofs::TextLaws::more_digits))]
 pub fn put_digits(out: &mut [u8], at: usize, n: u64, depth: usize) -> usize
     ensures { Appended out.old at (digits depth n) out.new result }
 {

@@ -1,6 +1,5 @@
--- `put_bytes` meets its contract: the bytes put so far, and those that are left. Assumes nothing.
-use Prim.Native.Nat.{◌-◌}
-use Rattle.text_puts.proofs.TextLaws.{Putting, put_none, put_next, put_all}
+use Rattle.std.proofs.Common.{◌-◌}
+use Rattle.text_puts.proofs.TextLaws.{Putting}
 use Rattle.text_puts.proofs.put_bytes.Given as goal
 
 abbrev pub invariant-loop-i : goal.invariant-loop-i
