@@ -23,9 +23,9 @@ returns-then-not-is_sound_by c =
 pub amend_there-requires : goal.amend_there-requires
 amend_there-requires c =
     let are-sound : sound (tables c.before.before.before.before.before.before.before.before.before.before.before.before.before.before.before.before.before.before) ≡ true = sym c.is_sound_by.ensures ∙ not-false _ c.if-not-is_sound_by.false-raw in
-    sound_there (tables c.before.before.before.before.before.before.before.before.before.before.before.before.before.before.before.before.before.before) c.args.service c.args.block.now (are-sound)
+    sound_there (tables c.before.before.before.before.before.before.before.before.before.before.before.before.before.before.before.before.before.before) c.args.service c.args.block.now are-sound
 
 pub returns : goal.returns
 returns c =
     let are-sound : sound (tables c.before.before.before.before.before.before.before.before.before.before.before.before.before.before.before.before.before.before.before.before.before) ≡ true = sym c.is_sound_by.ensures ∙ not-false _ c.if-not-is_sound_by.false-raw in
-    amended_sound (tables c.before.before.before.before.before.before.before.before.before.before.before.before.before.before.before.before.before.before.before.before.before) c.args.service c.args.block.now (are-sound) _ _ c.amend_there.ensures
+    amended_sound (tables c.before.before.before.before.before.before.before.before.before.before.before.before.before.before.before.before.before.before.before.before.before) c.args.service c.args.block.now are-sound _ _ c.amend_there.ensures

@@ -13,18 +13,18 @@ slice_bounds-first-end c =
 pub judge-judged-requires : goal.judge-judged-requires
 judge-judged-requires c =
     let own_form : c.form_of-form.result ≡ form_of (first_of (rows_in Delivery c.args.delivery.now)) = form_found c.args.delivery.now c.args.timetbls.now c.requires c.form_of-form.result c.form_of-form.ensures in
-    judgeable_there c.args.delivery.now c.args.timetbls.now c.requires _ (own_form)
+    judgeable_there c.args.delivery.now c.args.timetbls.now c.requires _ own_form
 
 pub carry_out-requires : goal.carry_out-requires
 carry_out-requires c =
     let own_form : c.form_of-form.result ≡ form_of (first_of (rows_in Delivery c.args.delivery.now)) = form_found c.args.delivery.now c.args.timetbls.now c.requires c.form_of-form.result c.form_of-form.ensures in
     let a = c.args in
-    doable a.delivery.now a.timetbls.now c.requires _ (own_form) a.company.now a.trnsmode.now a.stations.now a.footnote.now
+    doable a.delivery.now a.timetbls.now c.requires _ own_form a.company.now a.trnsmode.now a.stations.now a.footnote.now
     a.service a.block.now _ c.judge-judged.ensures
 
 pub returns : goal.returns
 returns c =
     let own_form : c.form_of-form.result ≡ form_of (first_of (rows_in Delivery c.args.delivery.now)) = form_found c.args.delivery.now c.args.timetbls.now c.requires c.form_of-form.result c.form_of-form.ensures in
     let a = c.args in
-    done_there a.delivery.now a.timetbls.now c.requires _ (own_form) a.company.now a.trnsmode.now a.stations.now a.footnote.now
+    done_there a.delivery.now a.timetbls.now c.requires _ own_form a.company.now a.trnsmode.now a.stations.now a.footnote.now
     a.service a.block.now _ c.judge-judged.ensures _ c.count_services-services.ensures _ _ c.carry_out.ensures

@@ -11,4 +11,4 @@ pub returns : goal.returns
 returns c =
     let a = c.args in
     replaced a.form a.block.now a.t.now a.used a.from a.to a.lines a.stops c.requires
-    c.move_rest.new.0 c.move_rest.ensures c.write_block.new.1.1.1.1.0 c.write_block.ensures
+    c.move_rest.new.t c.move_rest.ensures c.write_block.new.t c.write_block.ensures

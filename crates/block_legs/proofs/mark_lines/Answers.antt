@@ -19,7 +19,7 @@ pub loop-at-preserved : goal.loop-at-preserved
 loop-at-preserved c =
     let a = c.args in
     marked_next a.form a.block.now a.marks.now c.loop-at.marks _ a.n a.kind c.loop-at.at _ _ c.line_at-line.ensures c.loop-at.invariant
-    c.mark_line.ensures (not-false _ c.if-not-mark_line.false-raw) c.mark_line.auto.1.1.1.1.0
+    c.mark_line.ensures (not-false _ c.if-not-mark_line.false-raw) c.mark_line.auto.marks
 
 pub returns : goal.returns
 returns c =

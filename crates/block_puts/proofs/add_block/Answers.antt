@@ -44,4 +44,4 @@ returns-in-Whole c =
     let a = c.args in
     added_kept a.form a.block.now a.t.now _ a.counts a.companies.now a.modes.now a.stations.now a.footnotes.now
     a.row c.tell_new-new.result _ c.try_block.ensures a.search a.marks.now a.run c.requires _ _ c.in-Whole.is
-    c.try_block.auto.1.1.1.0 _ _ _ _ (c.after_block.ensures a.form) refl refl c.tell_new-new.ensures.asked
+    c.try_block.auto.t _ _ _ _ (c.after_block.ensures a.form) refl refl c.tell_new-new.ensures.asked

@@ -15,7 +15,7 @@ returns-then-new c =
 
 pub judge_again-requires : goal.judge_again-requires
 judge_again-requires c =
-    omega (arith, c.requires.room, c.place_block.auto.1.1.1.0)
+    omega (arith, c.requires.room, c.place_block.auto.t)
 
 pub returns-in-Whole : goal.returns-in-Whole
 returns-in-Whole c =
@@ -28,4 +28,4 @@ returns-else-new c =
     let a = c.args in
     tried_again a.form a.block.now a.t.now a.counts a.companies.now a.modes.now a.stations.now a.footnotes.now
     a.row a.new c.requires _ _ c.place_block.ensures _ _ c.in-Broken.is c.if-new.false
-    c.place_block.auto.1.1.1.0 _ _ c.judge_again.ensures
+    c.place_block.auto.t _ _ c.judge_again.ensures

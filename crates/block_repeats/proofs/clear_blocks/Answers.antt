@@ -5,4 +5,4 @@ use Rattle.block_repeats.proofs.clear_blocks.Goals as goal
 pub returns : goal.returns
 returns c =
     let a = c.args in
-    cleared a.t.now c.clear.new.0 c.clear.ensures
+    cleared a.t.now c.clear.new.t c.clear.ensures

@@ -26,15 +26,15 @@ overflow_add-place c =
 
 pub clear_blocks-requires : goal.clear_blocks-requires
 clear_blocks-requires c =
-    omega (arith, c.requires.room, c.add_blocks-walk.auto.1.1.1.1.0)
+    omega (arith, c.requires.room, c.add_blocks-walk.auto.t)
 
 pub add_blocks-again-requires : goal.add_blocks-again-requires
 add_blocks-again-requires c =
-    let as_it_was : c.clear_blocks.new.0 ≡ c.args.t.now = let a = c.args in
+    let as_it_was : c.clear_blocks.new.t ≡ c.args.t.now = let a = c.args in
     alone a.text.now a.from a.t.now a.marks.now c.requires c.add_blocks-walk.last.1.1.1.1.0
-    c.add_blocks-walk.auto.1.1.1.1.0 c.add_blocks-walk.ensures.first _ c.clear_blocks.ensures in
+    c.add_blocks-walk.auto.t c.add_blocks-walk.ensures.first _ c.clear_blocks.ensures in
     let a = c.args in
-    ready_again a.text.now a.from a.t.now a.marks.now c.requires _ _ (as_it_was) c.add_blocks-walk.auto.1.1.1.0
+    ready_again a.text.now a.from a.t.now a.marks.now c.requires _ _ as_it_was c.add_blocks-walk.auto.marks
 
 -- no service came before
 pub returns-in-Never : goal.returns-in-Never
@@ -53,19 +53,19 @@ returns-in-First c =
 -- all was read again
 pub returns-in-Untold : goal.returns-in-Untold
 returns-in-Untold c =
-    let as_it_was : c.clear_blocks.new.0 ≡ c.args.t.now = let a = c.args in
+    let as_it_was : c.clear_blocks.new.t ≡ c.args.t.now = let a = c.args in
     alone a.text.now a.from a.t.now a.marks.now c.requires c.add_blocks-walk.last.1.1.1.1.0
-    c.add_blocks-walk.auto.1.1.1.1.0 c.add_blocks-walk.ensures.first _ c.clear_blocks.ensures in
+    c.add_blocks-walk.auto.t c.add_blocks-walk.ensures.first _ c.clear_blocks.ensures in
     let a = c.args in
     told_again a.text.now a.from a.t.now a.marks.now c.requires a.form a.counts a.companies.now a.modes.now
-    a.stations.now a.footnotes.now c.clear_blocks.last.0 _ _ (as_it_was)
+    a.stations.now a.footnotes.now c.clear_blocks.last.0 _ _ as_it_was
     (walk_sure a.form a.text.now a.from a.counts a.companies.now a.modes.now a.stations.now a.footnotes.now
     c.clear_blocks.last.0 _ _ c.add_blocks-again.result c.add_blocks-again.ensures (c.add_blocks-again.ensures.asked refl))
 
 pub shape_of-marks-in-Untold : goal.shape_of-marks-in-Untold
 shape_of-marks-in-Untold c =
-    c.add_blocks-again.auto.1.1.1.0 ∙ c.add_blocks-walk.auto.1.1.1.0
+    c.add_blocks-again.auto.marks ∙ c.add_blocks-walk.auto.marks
 
 pub shape_of-t-in-Untold : goal.shape_of-t-in-Untold
 shape_of-t-in-Untold c =
-    c.add_blocks-again.auto.1.1.1.1.0 ∙ c.clear_blocks.auto.0 ∙ c.add_blocks-walk.auto.1.1.1.1.0
+    c.add_blocks-again.auto.t ∙ c.clear_blocks.auto.t ∙ c.add_blocks-walk.auto.t

@@ -27,7 +27,7 @@ loop-at-preserved c =
     let a = c.args in
     write_next a.form a.block.now a.t.now c.loop-at.t a.k a.n a.start
     c.loop-at.at c.loop-at.done c.requires c.loop-at.invariant
-    _ c.line_at-span.ensures _ c.put_line.ensures c.put_line.auto.1.1.1.1.1.0
+    _ c.line_at-span.ensures _ c.put_line.ensures c.put_line.auto.t
 
 pub returns : goal.returns
 returns c =

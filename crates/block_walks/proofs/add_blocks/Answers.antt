@@ -20,13 +20,13 @@ pub returns-in-Faulty : goal.returns-in-Faulty
 returns-in-Faulty c =
     let l = c.loop-at in
     adding_faulty _ _ _ _ _ _ _ _ _ _ l.t l.marks l.at l.row l.done l.run l.sure l.invariant _ c.next_head-found.ensures
-    _ _ _ c.add_block.ensures c.add_block.auto.1.1.1.1.1.0 _ _ c.in-Faulty.is
+    _ _ _ c.add_block.ensures c.add_block.auto.t _ _ c.in-Faulty.is
 
 pub loop-at-preserved : goal.loop-at-preserved
 loop-at-preserved c =
     let l = c.loop-at in
     adding_next _ _ _ _ _ _ _ _ _ _ l.t l.marks l.at l.row l.done l.run l.sure l.invariant _ c.next_head-found.ensures
-    _ _ _ c.add_block.ensures c.add_block.auto.1.1.1.1.1.0 _ _ _ c.in-Kept.is _ c.both-sure.ensures
+    _ _ _ c.add_block.ensures c.add_block.auto.t _ _ _ c.in-Kept.is _ c.both-sure.ensures
 
 pub returns : goal.returns
 returns c =
@@ -37,7 +37,7 @@ returns c =
 pub shape_of-marks-in-Faulty : goal.shape_of-marks-in-Faulty
 shape_of-marks-in-Faulty c =
     let marks-kept : length c.loop-at.marks ≡ length c.args.marks.now = c.loop-at.invariant.holding.marked.wide ∙ sym c.requires.holding.marked.wide in
-    c.add_block.auto.1.1.1.0 ∙ marks-kept
+    c.add_block.auto.marks ∙ marks-kept
 
 pub shape_of-marks : goal.shape_of-marks
 shape_of-marks c =

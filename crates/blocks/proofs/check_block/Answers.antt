@@ -12,14 +12,14 @@ returns-then-block-eq0 c = empty_checked _ _ _ _ _ _ _ _ c.if-block-eq0.true
 pub last_tests-requires : goal.last_tests-requires
 last_tests-requires c =
     let some : 0 < length c.args.block.now = omega arith in
-    lines_read _ _ _ _ _ _ _ _ (some) _ _ (sym c.read_stops.ensures ∙ c.in-Through.is)
+    lines_read _ _ _ _ _ _ _ _ some _ _ (sym c.read_stops.ensures ∙ c.in-Through.is)
 
 pub returns-in-Held : goal.returns-in-Held
 returns-in-Held c =
     let some : 0 < length c.args.block.now = omega arith in
-    held_checked _ _ _ _ _ _ _ _ (some) _ _ (sym c.read_stops.ensures ∙ c.in-Held.is)
+    held_checked _ _ _ _ _ _ _ _ some _ _ (sym c.read_stops.ensures ∙ c.in-Held.is)
 
 pub returns-in-Through : goal.returns-in-Through
 returns-in-Through c =
     let some : 0 < length c.args.block.now = omega arith in
-    last_checked _ _ _ _ _ _ _ _ (some) _ _ (sym c.read_stops.ensures ∙ c.in-Through.is) _ c.last_tests.ensures
+    last_checked _ _ _ _ _ _ _ _ some _ _ (sym c.read_stops.ensures ∙ c.in-Through.is) _ c.last_tests.ensures

@@ -44,7 +44,7 @@ core_change-requires c =
       c.requires.0,
       day-of longest _ _ x d.0,
       day-of longest _ _ y d.1,
-      part_of a.timetbls.now a.a-part _ _ x c.requires.1,
+      part_of a.timetbls.now a.a_part _ _ x c.requires.1,
       part_of a.timetbls.now c.find_part-b_part.result _ _ y c.find_part-b_part.ensures,
     )
 

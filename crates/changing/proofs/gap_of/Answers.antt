@@ -2,6 +2,7 @@
 use mathlib.Core.Path.{◌∙◌}
 use borrow.Author.Rules.{rules}
 use mir.Facts.{to_z-of_z}
+use mir.Syntax.{w32}
 use Rattle.changing.proofs.gap_of.Goals as goal
 
 pub gap-requires : goal.gap-requires
@@ -10,7 +11,7 @@ gap-requires c =
 
 pub returns-in-At-departure : goal.returns-in-At-departure
 returns-in-At-departure c =
-    to_z-of_z {z = c.gap.result} (search rules) ∙ rw (c.in-At.is, c.in-At-departure.is) c.gap.ensures
+    to_z-of_z {w = w32} {z = c.gap.result} (search rules) ∙ rw (c.in-At.is, c.in-At-departure.is) c.gap.ensures
 
 pub returns-in-NoTime-departure : goal.returns-in-NoTime-departure
 returns-in-NoTime-departure c = rw (c.in-At.is, c.in-NoTime-departure.is)

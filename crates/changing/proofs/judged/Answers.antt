@@ -26,7 +26,7 @@ returns-in_default c R z n =
     let a = c.args in
     let d = departure_to R (stop_found a.timetbls.now a.b) a.b.station a.to in
     no_first R (rows_found a.timetbls.now a.a) (rows_found a.timetbls.now a.b) a.a.station a.from a.to _ d _ d
-    ((arrives).is R z) refl c.in_default.is
+    (arrives.is R z) refl c.in_default.is
 
 pub returns-in_default-departure_on : goal.returns-in_default-departure_on
 returns-in_default-departure_on c R z n =
@@ -40,7 +40,7 @@ returns-in_default-departure_on c R z n =
     c.number_on-board_number.ensures.0 _ c.departure_on.ensures in
     let a = c.args in
     no_second R (rows_found a.timetbls.now a.a) (rows_found a.timetbls.now a.b) a.a.station a.from a.to _ _ _ _
-    ((arrives).is R z) ((departs).is R z) _ c.in-Told.is c.in_default-departure_on.is
+    (arrives.is R z) (departs.is R z) _ c.in-Told.is c.in_default-departure_on.is
 
 pub weighed-requires : goal.weighed-requires
 weighed-requires c =
@@ -53,8 +53,8 @@ weighed-requires c =
     c.departure_on.result = told_on_lem c.args.delivery.now c.args.zones.now c.args.stations.now c.args.b.station c.args.to.day _ _
     c.number_on-board_number.ensures.0 _ c.departure_on.ensures in
     let q = c.requires in (
-      (arrives).few _ c.in-Told.is,
-      (departs).few _ c.in-Told-departure_on.is,
+      arrives.few _ c.in-Told.is,
+      departs.few _ c.in-Told-departure_on.is,
       q.4,
       q.5,
       q.0.stations,
@@ -80,4 +80,4 @@ returns c R z n =
     let a = c.args in
     c.weighed.ensures R z.stations n.changes n.xfootnote n.xchanges
     ∙ both_told R (rows_found a.timetbls.now a.a) (rows_found a.timetbls.now a.b) a.a.station a.from a.to _ _ _ _
-    ((arrives).is R z) ((departs).is R z) _ _ c.in-Told.is c.in-Told-departure_on.is
+    (arrives.is R z) (departs.is R z) _ _ c.in-Told.is c.in-Told-departure_on.is

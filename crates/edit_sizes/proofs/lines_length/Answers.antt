@@ -13,10 +13,9 @@ word_at-tag-requires c =
 
 pub overflow_add-bytes : goal.overflow_add-bytes
 overflow_add-bytes c =
-    let row_size_lem : let l = c.before.before.before.before in
-    let a = l.before.before.args in
-    size_between a.form a.t.now l.loop.i a.to
-    ≡ c.record_length-n.result + 2 + size_between a.form a.t.now (l.loop.i + 1) a.to = let a = c.args in
+    let row_size_lem : (let a = c.args in
+    size_between a.form a.t.now c.loop-i.i a.to
+    ≡ c.record_length-n.result + 2 + size_between a.form a.t.now (c.loop-i.i + 1) a.to) = let a = c.args in
     size_step a.form a.t.now c.loop-i.i a.to _ _ _ c.loop-i-test.true c.word_at-tag.ensures c.record_of.ensures
     c.record_length-n.ensures in
     let p = c.requires.1 in
@@ -26,10 +25,9 @@ overflow_add-bytes c =
 
 pub overflow_add-bytes-in-loop-i : goal.overflow_add-bytes-in-loop-i
 overflow_add-bytes-in-loop-i c =
-    let row_size_lem : let l = c.before.before.before.before in
-    let a = l.before.before.args in
-    size_between a.form a.t.now l.loop.i a.to
-    ≡ c.record_length-n.result + 2 + size_between a.form a.t.now (l.loop.i + 1) a.to = let a = c.args in
+    let row_size_lem : (let a = c.args in
+    size_between a.form a.t.now c.loop-i.i a.to
+    ≡ c.record_length-n.result + 2 + size_between a.form a.t.now (c.loop-i.i + 1) a.to) = let a = c.args in
     size_step a.form a.t.now c.loop-i.i a.to _ _ _ c.loop-i-test.true c.word_at-tag.ensures c.record_of.ensures
     c.record_length-n.ensures in
     let p = c.requires.1 in
@@ -39,10 +37,9 @@ overflow_add-bytes-in-loop-i c =
 
 pub loop-i-preserved : goal.loop-i-preserved
 loop-i-preserved c =
-    let row_size_lem : let l = c.before.before.before.before in
-    let a = l.before.before.args in
-    size_between a.form a.t.now l.loop.i a.to
-    ≡ c.record_length-n.result + 2 + size_between a.form a.t.now (l.loop.i + 1) a.to = let a = c.args in
+    let row_size_lem : (let a = c.args in
+    size_between a.form a.t.now c.loop-i.i a.to
+    ≡ c.record_length-n.result + 2 + size_between a.form a.t.now (c.loop-i.i + 1) a.to) = let a = c.args in
     size_step a.form a.t.now c.loop-i.i a.to _ _ _ c.loop-i-test.true c.word_at-tag.ensures c.record_of.ensures
     c.record_length-n.ensures in
     record { all = omega (arith, c.loop-i.invariant.all, row_size_lem) }

@@ -22,12 +22,12 @@ add_line-requires c =
 
 pub overflow_add-count : goal.overflow_add-count
 overflow_add-count c =
-    let numbered : c.loop-at.count + 2 < 2 ^ 64 = omega (arith, c.loop-at.invariant.0.cut.few, c.loop-at.invariant.0.inside, c.loop-at-test.taken, c.well_formed) in
+    let numbered : c.loop-at.count + 2 < 2 ^ 64 = omega (arith, c.loop-at.invariant.0.cut.few, c.loop-at.invariant.0.inside, c.loop-at-test.true, c.well_formed) in
     let n = numbered in omega (arith, n)
 
 pub line_number-requires : goal.line_number-requires
 line_number-requires c =
-    let numbered : c.loop-at.count + 2 < 2 ^ 64 = omega (arith, c.loop-at.invariant.0.cut.few, c.loop-at.invariant.0.inside, c.loop-at-test.taken, c.well_formed) in
+    let numbered : c.loop-at.count + 2 < 2 ^ 64 = omega (arith, c.loop-at.invariant.0.cut.few, c.loop-at.invariant.0.inside, c.loop-at-test.true, c.well_formed) in
     let n = numbered in omega (arith, n)
 
 pub returns-in-Refused : goal.returns-in-Refused
@@ -48,14 +48,14 @@ slice_bounds-mark_line-count c = omega (arith, c.line_at-s.ensures)
 
 pub overflow_add-count-in-Key : goal.overflow_add-count-in-Key
 overflow_add-count-in-Key c =
-    omega (arith, c.loop-at.invariant.0.cut.few, c.loop-at.invariant.0.inside, c.loop-at-test.taken, c.well_formed)
+    omega (arith, c.loop-at.invariant.0.cut.few, c.loop-at.invariant.0.inside, c.loop-at-test.true, c.well_formed)
 
 pub loop-at-preserved : goal.loop-at-preserved
 loop-at-preserved c = (
   goes_on c.args.file c.args.form c.args.text.now c.args.from c.args.counts c.args.countries.now c.args.zones.now
       c.args.t.now c.requires.0 _ _ _ _ _ c.loop-at.invariant.0 _ c.line_at-s.ensures _ _ c.add_line.ensures _
       c.in-Key.is _ _ c.next_run-run.ensures c.mark_line.ensures,
-  c.mark_line.auto.1.0 ∙ c.loop-at.invariant.1,
+  c.mark_line.auto.marks ∙ c.loop-at.invariant.1,
 )
 
 pub returns : goal.returns
@@ -82,7 +82,9 @@ pub slice_bounds-add_line-end-in-loop-at : goal.slice_bounds-add_line-end-in-loo
 slice_bounds-add_line-end-in-loop-at c = omega (arith, c.line_at-s.ensures)
 
 pub shape_of-t-in-Refused : goal.shape_of-t-in-Refused
-shape_of-t-in-Refused c = (returns-in-Refused c).kept
+shape_of-t-in-Refused c = ((stops c.args.file c.args.form c.args.text.now c.args.from c.args.counts c.args.countries.now c.args.zones.now
+    c.args.t.now c.requires.0 _ _ _ _ _ c.loop-at.invariant.0 _ c.line_at-s.ensures _ _ c.add_line.ensures _ _
+    c.in-Refused.is (c.line_number.ensures ∙ omega arith))).kept
 
 pub shape_of-marks-in-Refused : goal.shape_of-marks-in-Refused
 shape_of-marks-in-Refused c = c.loop-at.invariant.1
@@ -91,7 +93,8 @@ pub loop-at-smaller : goal.loop-at-smaller
 loop-at-smaller c = omega (arith, c.line_at-s.ensures)
 
 pub shape_of-t : goal.shape_of-t
-shape_of-t c = (returns c).kept
+shape_of-t c = ((ends c.args.file c.args.form c.args.text.now c.args.from c.args.counts c.args.countries.now c.args.zones.now
+    c.args.t.now c.requires.0 _ _ _ _ _ c.loop-at.invariant.0 c.loop-at-test.false)).kept
 
 pub shape_of-marks : goal.shape_of-marks
 shape_of-marks c = c.loop-at.invariant.1

@@ -16,7 +16,7 @@ pub put_words-requires : goal.put_words-requires
 put_words-requires c = first_legible (form424 0) _ c.requires
 
 pub slice_bounds-first_means-end : goal.slice_bounds-first_means-end
-slice_bounds-first_means-end c = sym c.put_words.auto.1.1.1.1.1.0
+slice_bounds-first_means-end c = sym c.put_words.auto.out
 
 pub first_means-requires : goal.first_means-requires
-first_means-requires c = omega (arith, c.put_words.auto.1.1.1.1.1.0)
+first_means-requires c = omega (arith, c.put_words.auto.out)

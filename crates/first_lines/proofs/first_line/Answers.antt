@@ -72,4 +72,4 @@ pub days_right-requires : goal.days_right-requires
 days_right-requires c =
     let fitting : fits c.args.line.now (picture (record_fields (form424 0) FirstRecord)) ≡ true = let a = c.args in
     laid_fits (form424 0) a.line.now a.ended _ c.is_laid.ensures (not-false _ c.if-not-is_laid.false-raw) in
-    legible_first (form424 0) _ (fitting) (sym c.is_readable.ensures ∙ not-false _ c.if-not-is_readable.false-raw)
+    legible_first (form424 0) _ fitting (sym c.is_readable.ensures ∙ not-false _ c.if-not-is_readable.false-raw)

@@ -11,11 +11,11 @@ use Rattle.first_lines.proofs.put_first.Goals as goal
 
 pub bounds-row-5 : goal.bounds-row-5
 bounds-row-5 c =
-    omega (arith, (widths c.args.file).wide, c.requires.width, c.put_words.auto.1.1.1.1.1.0)
+    omega (arith, (widths c.args.file).wide, c.requires.width, c.put_words.auto.out)
 
 pub bounds-row-6 : goal.bounds-row-6
 bounds-row-6 c =
-    simp length-set (omega (arith, ap row_width c.in-Timetbls.is, c.requires.width, c.put_words.auto.1.1.1.1.1.0))
+    simp length-set (omega (arith, ap row_width c.in-Timetbls.is, c.requires.width, c.put_words.auto.out))
 
 pub returns-in-Delivery : goal.returns-in-Delivery
 returns-in-Delivery c =
@@ -41,13 +41,13 @@ pub put_words-requires : goal.put_words-requires
 put_words-requires c = row_legible (form424 0) c.args.file _ _ c.requires
 
 pub shape_of-row-in-Delivery : goal.shape_of-row-in-Delivery
-shape_of-row-in-Delivery c = simp length-set c.put_words.auto.1.1.1.1.1.0
+shape_of-row-in-Delivery c = simp length-set c.put_words.auto.out
 
 pub shape_of-row-in-Rows : goal.shape_of-row-in-Rows
-shape_of-row-in-Rows c = simp length-set c.put_words.auto.1.1.1.1.1.0
+shape_of-row-in-Rows c = simp length-set c.put_words.auto.out
 
 pub shape_of-row-in-Groups : goal.shape_of-row-in-Groups
-shape_of-row-in-Groups c = simp length-set c.put_words.auto.1.1.1.1.1.0
+shape_of-row-in-Groups c = simp length-set c.put_words.auto.out
 
 pub shape_of-row-in-Timetbls : goal.shape_of-row-in-Timetbls
-shape_of-row-in-Timetbls c = simp length-set c.put_words.auto.1.1.1.1.1.0
+shape_of-row-in-Timetbls c = simp length-set c.put_words.auto.out

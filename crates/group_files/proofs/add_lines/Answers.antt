@@ -42,7 +42,7 @@ returns-in-Early c =
 
 pub shape_of-marks-in-Early : goal.shape_of-marks-in-Early
 shape_of-marks-in-Early c =
-    c.group_line.auto.1.1.1.1.1.1.1.1.1.1.1.1.1.1.0 ∙ c.loop-at.invariant.1
+    c.group_line.auto.marks ∙ c.loop-at.invariant.1
 
 -- it is refused
 pub line_number-requires-in-Refused : goal.line_number-requires-in-Refused
@@ -56,7 +56,7 @@ returns-in-Refused c =
 
 pub shape_of-marks-in-Refused : goal.shape_of-marks-in-Refused
 shape_of-marks-in-Refused c =
-    c.group_line.auto.1.1.1.1.1.1.1.1.1.1.1.1.1.1.0 ∙ c.loop-at.invariant.1
+    c.group_line.auto.marks ∙ c.loop-at.invariant.1
 
 -- it stands in the table
 pub loop-at-smaller : goal.loop-at-smaller
@@ -67,7 +67,7 @@ pub loop-at-preserved : goal.loop-at-preserved
 loop-at-preserved c = (
   walk_goes _ _ _ _ _ _ c.requires _ _ _ _ _ c.loop-at.invariant.0 _ c.line_at-s.ensures _ _ _ c.group_line.ensures _
       c.in-Put.is,
-  c.group_line.auto.1.1.1.1.1.1.1.1.1.1.1.1.1.1.0 ∙ c.loop-at.invariant.1,
+  c.group_line.auto.marks ∙ c.loop-at.invariant.1,
 )
 
 -- NO LINES ARE LEFT
@@ -86,19 +86,23 @@ returns c =
     (sym c.may_end.ensures ∙ not-false _ c.if-not-may_end.false-raw)
 
 pub shape_of-t-in-Early : goal.shape_of-t-in-Early
-shape_of-t-in-Early c = (returns-in-Early c).kept
+shape_of-t-in-Early c = ((walk_early _ _ _ _ _ _ c.requires _ _ _ _ _ c.loop-at.invariant.0 _ c.line_at-s.ensures _ _ _ c.group_line.ensures
+    c.in-Early.is _ c.line_number.ensures)).kept
 
 pub shape_of-t-in-Refused : goal.shape_of-t-in-Refused
-shape_of-t-in-Refused c = (returns-in-Refused c).kept
+shape_of-t-in-Refused c = ((walk_refused _ _ _ _ _ _ c.requires _ _ _ _ _ c.loop-at.invariant.0 _ c.line_at-s.ensures _ _ _ c.group_line.ensures _
+    c.in-Refused.is _ c.line_number-in-Refused.ensures)).kept
 
 pub shape_of-t-then-not-may_end : goal.shape_of-t-then-not-may_end
-shape_of-t-then-not-may_end c = (returns-then-not-may_end c).kept
+shape_of-t-then-not-may_end c = ((walk_short _ _ _ _ _ _ c.requires _ _ _ _ _ c.loop-at.invariant.0 c.loop-at-test.false
+    (sym c.may_end.ensures ∙ not-true _ c.if-not-may_end.true-raw) _ c.line_number-then-not-may_end.ensures)).kept
 
 pub shape_of-marks-then-not-may_end : goal.shape_of-marks-then-not-may_end
 shape_of-marks-then-not-may_end c = c.loop-at.invariant.1
 
 pub shape_of-t : goal.shape_of-t
-shape_of-t c = (returns c).kept
+shape_of-t c = ((walk_ends _ _ _ _ _ _ c.requires _ _ _ _ _ c.loop-at.invariant.0 c.loop-at-test.false
+    (sym c.may_end.ensures ∙ not-false _ c.if-not-may_end.false-raw))).kept
 
 pub shape_of-marks : goal.shape_of-marks
 shape_of-marks c = c.loop-at.invariant.1

@@ -24,7 +24,7 @@ read_groups-requires c =
 pub set_rises-requires : goal.set_rises-requires
 set_rises-requires c =
     let more : 0 < length c.args.text.now = omega (arith, c.if-text-eq0.false) in
-    flag_room _ _ _ _ _ _ _ c.in-Fine.is (more) _ _ c.begin_file.ensures _ c.in-Rest.is _ _
+    flag_room _ _ _ _ _ _ _ c.in-Fine.is more _ _ c.begin_file.ensures _ c.in-Rest.is _ _
     c.read_groups.ensures _ c.in-AllRead.is
 
 pub returns-in-Fault : goal.returns-in-Fault
@@ -33,25 +33,33 @@ returns-in-Fault c = handed_on _ _ _ _ _ _ _ _ _ c.in-Fault.is
 pub returns-in-Broken : goal.returns-in-Broken
 returns-in-Broken c =
     let more : 0 < length c.args.text.now = omega (arith, c.if-text-eq0.false) in
-    head_refused _ _ _ _ _ _ _ c.in-Fine.is (more) _ _ c.begin_file.ensures _ c.in-Broken.is
+    head_refused _ _ _ _ _ _ _ c.in-Fine.is more _ _ c.begin_file.ensures _ c.in-Broken.is
 
 pub returns-in-Stopped : goal.returns-in-Stopped
 returns-in-Stopped c =
     let more : 0 < length c.args.text.now = omega (arith, c.if-text-eq0.false) in
-    groups_refused _ _ _ _ _ _ _ c.in-Fine.is (more) _ _ c.begin_file.ensures _ c.in-Rest.is _ _
+    groups_refused _ _ _ _ _ _ _ c.in-Fine.is more _ _ c.begin_file.ensures _ c.in-Rest.is _ _
     c.read_groups.ensures _ _ c.in-Stopped.is
 
 pub returns-in-AllRead : goal.returns-in-AllRead
 returns-in-AllRead c =
     let more : 0 < length c.args.text.now = omega (arith, c.if-text-eq0.false) in
-    groups_accepted _ _ _ _ _ _ _ c.in-Fine.is (more) _ _ c.begin_file.ensures _ c.in-Rest.is _ _
+    groups_accepted _ _ _ _ _ _ _ c.in-Fine.is more _ _ c.begin_file.ensures _ c.in-Rest.is _ _
     c.read_groups.ensures _ c.in-AllRead.is _ c.set_rises.ensures
 
 pub shape_of-t-in-Broken : goal.shape_of-t-in-Broken
-shape_of-t-in-Broken c = (returns-in-Broken c).kept
+shape_of-t-in-Broken c =
+    let more : 0 < length c.args.text.now = omega (arith, c.if-text-eq0.false) in
+    ((head_refused _ _ _ _ _ _ _ c.in-Fine.is more _ _ c.begin_file.ensures _ c.in-Broken.is)).kept
 
 pub shape_of-t-in-Stopped : goal.shape_of-t-in-Stopped
-shape_of-t-in-Stopped c = (returns-in-Stopped c).kept
+shape_of-t-in-Stopped c =
+    let more : 0 < length c.args.text.now = omega (arith, c.if-text-eq0.false) in
+    ((groups_refused _ _ _ _ _ _ _ c.in-Fine.is more _ _ c.begin_file.ensures _ c.in-Rest.is _ _
+    c.read_groups.ensures _ _ c.in-Stopped.is)).kept
 
 pub shape_of-t-in-AllRead : goal.shape_of-t-in-AllRead
-shape_of-t-in-AllRead c = (returns-in-AllRead c).kept
+shape_of-t-in-AllRead c =
+    let more : 0 < length c.args.text.now = omega (arith, c.if-text-eq0.false) in
+    ((groups_accepted _ _ _ _ _ _ _ c.in-Fine.is more _ _ c.begin_file.ensures _ c.in-Rest.is _ _
+    c.read_groups.ensures _ c.in-AllRead.is _ c.set_rises.ensures)).kept

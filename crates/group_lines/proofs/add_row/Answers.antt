@@ -40,4 +40,4 @@ returns-in-Fails c =
 pub returns-in-Passes : goal.returns-in-Passes
 returns-in-Passes c =
     put_there _ _ _ _ _ _ _ _ c.requires.0 _ _ _ c.test_row.ensures c.requires.1 c.in-Passes.is _
-    c.put_row.ensures c.put_row.auto.0 _ c.remember.ensures _ c.open_after-after.ensures
+    c.put_row.ensures c.put_row.auto.t _ c.remember.ensures _ c.open_after-after.ensures

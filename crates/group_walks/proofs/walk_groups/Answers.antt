@@ -39,18 +39,18 @@ is_group_sound-requires c =
 
 pub shape_of-marks-then-not-is_group_sound : goal.shape_of-marks-then-not-is_group_sound
 shape_of-marks-then-not-is_group_sound c =
-    c.is_group_sound.auto.1.1.1.1.1.1.1.1.1.1.1.1.1.0 ∙ c.loop-i.invariant.1
+    c.is_group_sound.auto.marks ∙ c.loop-i.invariant.1
 
 pub returns-then-not-is_group_sound : goal.returns-then-not-is_group_sound
 returns-then-not-is_group_sound c =
-    breaks _ _ _ _ _ _ _ _ _ _ _ _ c.loop-i.invariant.0 c.loop-i-test.taken _ c.next_head-next.ensures _ c.is_group_sound.ensures
+    breaks _ _ _ _ _ _ _ _ _ _ _ _ c.loop-i.invariant.0 c.loop-i-test.true _ c.next_head-next.ensures _ c.is_group_sound.ensures
     (not-true _ c.if-not-is_group_sound.true-raw)
 
 pub loop-i-preserved : goal.loop-i-preserved
 loop-i-preserved c = (
-  goes_on _ _ _ _ _ _ _ _ _ _ _ _ c.loop-i.invariant.0 c.loop-i-test.taken _ c.next_head-next.ensures _ c.is_group_sound.ensures
+  goes_on _ _ _ _ _ _ _ _ _ _ _ _ c.loop-i.invariant.0 c.loop-i-test.true _ c.next_head-next.ensures _ c.is_group_sound.ensures
       (not-false _ c.if-not-is_group_sound.false-raw),
-  c.is_group_sound.auto.1.1.1.1.1.1.1.1.1.1.1.1.1.0 ∙ c.loop-i.invariant.1,
+  c.is_group_sound.auto.marks ∙ c.loop-i.invariant.1,
 )
 
 pub returns : goal.returns

@@ -19,7 +19,10 @@ keyed_at-requires c = (
 )
 
 pub word_at-requires : goal.word_at-requires
-word_at-requires c = keyed_at-requires c.before.before
+word_at-requires c = ((
+  key_column c.args.file _ _ _ c.row_width-w.ensures.is c.key_tag-tag.ensures c.key_word-col.ensures,
+  row_among _ c.args.used _ _ c.rows_among-rows.ensures _ (omega arith),
+))
 
 pub returns-then-keyed_at : goal.returns-then-keyed_at
 returns-then-keyed_at c =

@@ -20,7 +20,8 @@ put_first-requires c =
           c.first_line.ensures told;
       width =
           rw sub-zero
-          (length-take-le c.row_width-w.result c.args.t.now (slice_bounds-put_first-end-in-Passes c.before) ∙ c.row_width-w.ensures.is);
+          (length-take-le c.row_width-w.result c.args.t.now ((let fits = first_fits c.args.text.now _ c.line_at-s.ensures c.args.file c.args.t.now c.requires.1 in
+          omega (arith, c.row_width-w.ensures.is))) ∙ c.row_width-w.ensures.is);
     }
 
 pub returns-in-Fails : goal.returns-in-Fails
@@ -34,7 +35,8 @@ returns-in-Passes c =
     c.requires.1 _ c.in-Passes.is c.put_first.ensures _ c.row_width-w.ensures.is
 
 pub shape_of-t : goal.shape_of-t
-shape_of-t c = (returns-in-Passes c).kept
+shape_of-t c = ((accepted c.args.file c.args.header.now c.args.text.now c.args.t.now _ c.line_at-s.ensures _ c.first_line.ensures
+    c.requires.1 _ c.in-Passes.is c.put_first.ensures _ c.row_width-w.ensures.is)).kept
 
 pub slice_bounds-first_line-end : goal.slice_bounds-first_line-end
 slice_bounds-first_line-end c = omega (arith, c.line_at-s.ensures)

@@ -39,7 +39,7 @@ returns-in-Fault c =
 pub returns-in-Broken : goal.returns-in-Broken
 returns-in-Broken c =
     let b = c.begin_file.ensures in
-    let more : 0 < length c.args.text.now = omega (arith, c.if-text-eq0.left) in
+    let more : 0 < length c.args.text.now = omega (arith, c.if-text-eq0.false) in
     let h = ap (λ l. l.body) (head_is c.args.text.now _ c.line_at-s.ensures) in
     rw c.in-Fine.is
     (delivery_refused c.args.text.now c.args.t.now _ (drop 1 (lines c.args.text.now)) (some_lines c.args.text.now more) _
@@ -68,10 +68,27 @@ pub slice_bounds-begin_file-end : goal.slice_bounds-begin_file-end
 slice_bounds-begin_file-end c = omega (arith, c.line_at-s.ensures)
 
 pub shape_of-t-then-from-text : goal.shape_of-t-then-from-text
-shape_of-t-then-from-text c = (returns-then-from-text c).kept
+shape_of-t-then-from-text c = ((let b = c.begin_file.ensures in
+    let from = c.from-1.given in
+    let split = b.rest _ from.1 in
+    let h = ap (λ l. l.body) (head_is c.args.text.now _ c.line_at-s.ensures) in
+    rw c.in-Fine.is
+    (delivery_second c.args.text.now c.args.t.now _ _ split.all _ (b.test ∙ rw (← h)) b.kept (ap begin_test from.1) _ _
+    (line_left c.args.text.now _ c.if-from-text.true)))).kept
 
 pub shape_of-t-in-Broken : goal.shape_of-t-in-Broken
-shape_of-t-in-Broken c = (returns-in-Broken c).kept
+shape_of-t-in-Broken c = ((let b = c.begin_file.ensures in
+    let more : 0 < length c.args.text.now = omega (arith, c.if-text-eq0.false) in
+    let h = ap (λ l. l.body) (head_is c.args.text.now _ c.line_at-s.ensures) in
+    rw c.in-Fine.is
+    (delivery_refused c.args.text.now c.args.t.now _ (drop 1 (lines c.args.text.now)) (some_lines c.args.text.now more) _
+    (b.test ∙ rw (← h)) b.kept _ (ap begin_test c.in-Broken.is)))).kept
 
 pub shape_of-t-else-from-text : goal.shape_of-t-else-from-text
-shape_of-t-else-from-text c = (returns-else-from-text c).kept
+shape_of-t-else-from-text c = ((let b = c.begin_file.ensures in
+    let from = c.from-1.given in
+    let split = b.rest _ from.1 in
+    let h = ap (λ l. l.body) (head_is c.args.text.now _ c.line_at-s.ensures) in
+    rw c.in-Fine.is
+    (delivery_alone c.args.text.now c.args.t.now _ _ split.all _ (b.test ∙ rw (← h)) b.kept (ap begin_test from.1)
+    (none_left c.args.text.now _ c.if-from-text.false) split.begun.holds))).kept

@@ -35,7 +35,7 @@ try_key-requires c = c.requires.1
 
 pub shape_of-set-in-Came : goal.shape_of-set-in-Came
 shape_of-set-in-Came c =
-    c.try_key.auto.0 ∙ c.loop-i.invariant.holds.wide
+    c.try_key.auto.set ∙ c.loop-i.invariant.holds.wide
 
 pub returns-in-Came : goal.returns-in-Came
 returns-in-Came c =
@@ -46,7 +46,7 @@ returns-in-Came c =
 
 pub shape_of-set-in-NoRoom : goal.shape_of-set-in-NoRoom
 shape_of-set-in-NoRoom c =
-    c.try_key.auto.0 ∙ c.loop-i.invariant.holds.wide
+    c.try_key.auto.set ∙ c.loop-i.invariant.holds.wide
 
 pub returns-in-NoRoom : goal.returns-in-NoRoom
 returns-in-NoRoom c =

@@ -18,7 +18,7 @@ pub bounds-set-at : goal.bounds-set-at
 bounds-set-at c = (c.probe.ensures.free _ c.in-Free.is).inside
 
 pub offset_bounds-set-at : goal.offset_bounds-set-at
-offset_bounds-set-at c = omega (arith, bounds-set-at c)
+offset_bounds-set-at c = omega (arith, ((c.probe.ensures.free _ c.in-Free.is).inside))
 
 pub returns-in-Free : goal.returns-in-Free
 returns-in-Free c =

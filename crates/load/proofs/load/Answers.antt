@@ -44,51 +44,51 @@ read_last_files-last-requires c =
 
 -- THE TABLES KEEP THEIR LENGTHS
 pub shape_of-t_delivery : goal.shape_of-t_delivery
-shape_of-t_delivery c = c.settle.auto.1.0 ∙ c.read_first_files-first.ensures.delivered.kept ∙ c.clear_all.auto.0
+shape_of-t_delivery c = c.settle.auto.t1 ∙ c.read_first_files-first.ensures.delivered.kept ∙ c.clear_all.auto.t1
 
 pub shape_of-t_company : goal.shape_of-t_company
-shape_of-t_company c = c.settle.auto.1.1.0 ∙ c.read_first_files-first.ensures.companies.kept ∙ c.clear_all.auto.1.0
+shape_of-t_company c = c.settle.auto.t2 ∙ c.read_first_files-first.ensures.companies.kept ∙ c.clear_all.auto.t2
 
 pub shape_of-t_country : goal.shape_of-t_country
-shape_of-t_country c = c.settle.auto.1.1.1.0 ∙ c.read_first_files-first.ensures.countries.kept ∙ c.clear_all.auto.1.1.0
+shape_of-t_country c = c.settle.auto.t3 ∙ c.read_first_files-first.ensures.countries.kept ∙ c.clear_all.auto.t3
 
 pub shape_of-t_trnsmode : goal.shape_of-t_trnsmode
-shape_of-t_trnsmode c = c.settle.auto.1.1.1.1.0 ∙ c.read_first_files-first.ensures.modes.kept ∙ c.clear_all.auto.1.1.1.0
+shape_of-t_trnsmode c = c.settle.auto.t4 ∙ c.read_first_files-first.ensures.modes.kept ∙ c.clear_all.auto.t4
 
 pub shape_of-t_timezone : goal.shape_of-t_timezone
 shape_of-t_timezone c =
-    c.settle.auto.1.1.1.1.1.0 ∙ c.read_first_files-first.ensures.zones.kept
-    ∙ c.clear_all.auto.1.1.1.1.0
+    c.settle.auto.t5 ∙ c.read_first_files-first.ensures.zones.kept
+    ∙ c.clear_all.auto.t5
 
 pub shape_of-t_stations : goal.shape_of-t_stations
 shape_of-t_stations c =
-    c.settle.auto.1.1.1.1.1.1.0 ∙ c.read_first_files-first.ensures.places.kept
-    ∙ c.clear_all.auto.1.1.1.1.1.0
+    c.settle.auto.t6 ∙ c.read_first_files-first.ensures.places.kept
+    ∙ c.clear_all.auto.t6
 
 pub shape_of-t_footnote : goal.shape_of-t_footnote
 shape_of-t_footnote c =
-    c.settle.auto.1.1.1.1.1.1.1.0 ∙ c.read_first_files-first.ensures.footnotes.kept
-    ∙ c.clear_all.auto.1.1.1.1.1.1.0
+    c.settle.auto.t7 ∙ c.read_first_files-first.ensures.footnotes.kept
+    ∙ c.clear_all.auto.t7
 
 pub shape_of-t_timetbls : goal.shape_of-t_timetbls
 shape_of-t_timetbls c =
-    c.settle.auto.1.1.1.1.1.1.1.1.0 ∙ c.read_last_files-last.ensures.blocks.kept
-    ∙ c.clear_all.auto.1.1.1.1.1.1.1.0
+    c.settle.auto.t8 ∙ c.read_last_files-last.ensures.blocks.kept
+    ∙ c.clear_all.auto.t8
 
 pub shape_of-t_changes : goal.shape_of-t_changes
 shape_of-t_changes c =
-    c.settle.auto.1.1.1.1.1.1.1.1.1.0 ∙ c.read_last_files-last.ensures.changed.kept
-    ∙ c.clear_all.auto.1.1.1.1.1.1.1.1.0
+    c.settle.auto.t9 ∙ c.read_last_files-last.ensures.changed.kept
+    ∙ c.clear_all.auto.t9
 
 pub shape_of-t_xfootnote : goal.shape_of-t_xfootnote
 shape_of-t_xfootnote c =
-    c.settle.auto.1.1.1.1.1.1.1.1.1.1.0 ∙ c.read_last_files-last.ensures.marked.kept
-    ∙ c.clear_all.auto.1.1.1.1.1.1.1.1.1.0
+    c.settle.auto.t10 ∙ c.read_last_files-last.ensures.marked.kept
+    ∙ c.clear_all.auto.t10
 
 pub shape_of-t_xchanges : goal.shape_of-t_xchanges
 shape_of-t_xchanges c =
-    c.settle.auto.1.1.1.1.1.1.1.1.1.1.1.0 ∙ c.read_last_files-last.ensures.excepted.kept
-    ∙ c.clear_all.auto.1.1.1.1.1.1.1.1.1.1.0
+    c.settle.auto.t11 ∙ c.read_last_files-last.ensures.excepted.kept
+    ∙ c.clear_all.auto.t11
 
 pub returns : goal.returns
 returns c =

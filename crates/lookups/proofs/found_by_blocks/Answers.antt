@@ -12,7 +12,7 @@ keyed_at-requires c =
     (omega arith, row_among _ c.args.used _ _ c.rows_among-rows.ensures _ c.loop-i-test.true)
 
 pub next_block-i-requires : goal.next_block-i-requires
-next_block-i-requires c = (c.loop-i-test.true, (keyed_at-requires c.before.before).1)
+next_block-i-requires c = (c.loop-i-test.true, (row_among _ c.args.used _ _ c.rows_among-rows.ensures _ c.loop-i-test.true))
 
 pub returns-then-keyed_at : goal.returns-then-keyed_at
 returns-then-keyed_at c =

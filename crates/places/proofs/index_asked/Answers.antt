@@ -11,7 +11,7 @@ word_at-service-requires c =
 
 pub next_block-i-requires : goal.next_block-i-requires
 next_block-i-requires c =
-    (c.loop-i-test.true, (word_at-service-requires c.before.before.before.before.before).1)
+    (c.loop-i-test.true, (row_among _ c.args.used _ _ c.rows_among-rows.ensures _ c.loop-i-test.true))
 
 pub rows_among-rows-requires : goal.rows_among-rows-requires
 rows_among-rows-requires c = omega arith

@@ -9,10 +9,10 @@ returns-in-Times c =
     let arrivesReference = c.reference_of-arrives_reference in
     let departs = c.local_of-departs in
     let departsReference = c.reference_of-departs_reference in
-    rw (to_z-of_z {w = w32} {z = arrives.result} (record { sfits = arrives.type-inv }))
-    (rw (to_z-of_z {w = w32} {z = arrivesReference.result} (record { sfits = arrivesReference.type-inv }))
-    (rw (to_z-of_z {w = w32} {z = departs.result} (record { sfits = departs.type-inv }))
-    (rw (to_z-of_z {w = w32} {z = departsReference.result} (record { sfits = departsReference.type-inv }))
+    rw (to_z-of_z {w = w32} {z = arrives.result} (record { sfits = arrives.type_inv }))
+    (rw (to_z-of_z {w = w32} {z = arrivesReference.result} (record { sfits = arrivesReference.type_inv }))
+    (rw (to_z-of_z {w = w32} {z = departs.result} (record { sfits = departs.type_inv }))
+    (rw (to_z-of_z {w = w32} {z = departsReference.result} (record { sfits = departsReference.type_inv }))
     (rw c.in-Times.is
     (rw (arrives.ensures, arrivesReference.ensures, departs.ensures, departsReference.ensures))))))
 

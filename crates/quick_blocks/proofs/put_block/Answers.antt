@@ -9,7 +9,7 @@ is_whole-requires c =
     let a = c.args in
     block_of_stops a.form a.block.now a.fresh a.counts a.companies.now a.modes.now a.stations.now a.footnotes.now
     a.t.now _ a.row c.requires.0 _ _ _ c.read_stops.ensures _ _ c.in-Lines.is
-    c.read_stops.auto.1.1.1.1.1.1.1.0 c.requires.1
+    c.read_stops.auto.t c.requires.1
 
 pub returns-then-not-is_whole : goal.returns-then-not-is_whole
 returns-then-not-is_whole c =
@@ -28,7 +28,7 @@ returns-else-not-is_whole c =
     let a = c.args in
     whole_put a.form a.block.now a.fresh a.counts a.companies.now a.modes.now a.stations.now a.footnotes.now
     a.t.now _ a.row c.requires.0 _ _ _ c.read_stops.ensures _ _ c.in-Lines.is
-    c.read_stops.auto.1.1.1.1.1.1.1.0 c.requires.1 (c.is_whole.ensures (not-false _ c.if-not-is_whole.false-raw))
+    c.read_stops.auto.t c.requires.1 (c.is_whole.ensures (not-false _ c.if-not-is_whole.false-raw))
     (not-false _ c.if-not-fresh.false-raw)
 
 pub returns-then-not-fresh : goal.returns-then-not-fresh
@@ -38,10 +38,10 @@ pub read_stops-requires : goal.read_stops-requires
 read_stops-requires c = whole_drivable _ c.requires.0 _ _ c.requires.1
 
 pub shape_of-t-then-not-is_whole : goal.shape_of-t-then-not-is_whole
-shape_of-t-then-not-is_whole c = c.read_stops.auto.1.1.1.1.1.1.1.0
+shape_of-t-then-not-is_whole c = c.read_stops.auto.t
 
 pub shape_of-t-in-Stuck : goal.shape_of-t-in-Stuck
-shape_of-t-in-Stuck c = c.read_stops.auto.1.1.1.1.1.1.1.0
+shape_of-t-in-Stuck c = c.read_stops.auto.t
 
 pub shape_of-t-else-not-is_whole : goal.shape_of-t-else-not-is_whole
-shape_of-t-else-not-is_whole c = c.read_stops.auto.1.1.1.1.1.1.1.0
+shape_of-t-else-not-is_whole c = c.read_stops.auto.t

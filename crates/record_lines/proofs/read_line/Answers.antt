@@ -23,5 +23,5 @@ returns-in-Passes c =
     record {
       test = sym c.in-Passes.is ∙ c.line_layout.ensures;
       row = λ e. c.put_words.ensures;
-      kept = c.put_words.auto.1.1.1.1.1.0;
+      kept = c.put_words.auto.out;
     }

@@ -41,7 +41,7 @@ returns c =
     c.loop-class-test.false c.loop-class.invariant (no_more a.used a.t.now c.requires) c.if-upto-used.false
 
 pub overflow_add-class : goal.overflow_add-class
-overflow_add-class c = omega (arith, c.loop-class-test.true, c.class_count-classes.type-inv)
+overflow_add-class c = omega (arith, c.loop-class-test.true, c.class_count-classes.type_inv)
 
 pub loop-class-smaller : goal.loop-class-smaller
 loop-class-smaller c = omega arith

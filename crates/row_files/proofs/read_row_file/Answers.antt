@@ -85,10 +85,24 @@ returns-in-AllRead c =
     (begun_first c.args.file _ _ _ split.begun) refl)
 
 pub shape_of-t-in-Broken : goal.shape_of-t-in-Broken
-shape_of-t-in-Broken c = (returns-in-Broken c).kept
+shape_of-t-in-Broken c = ((let more : 0 < length c.args.text.now = omega (arith, c.if-text-eq0.false) in
+    rw c.in-Fine.is
+    (first_refused (file c.before.before.before.before.before.before.before.before.before.before.before.before.before.before.before) c.args.form (agrees c.before.before.before.before.before.before.before.before.before.before.before.before.before.before.before) c.args.header.now c.args.text.now c.args.t.now
+    (drop 1 (lines c.args.text.now)) (some_lines c.args.text.now more) _ c.begin_file.ensures.test _ _
+    (ap begin_test c.in-Broken.is) c.begin_file.ensures.kept))).kept
 
 pub shape_of-t-in-Stopped : goal.shape_of-t-in-Stopped
-shape_of-t-in-Stopped c = (returns-in-Stopped c).kept
+shape_of-t-in-Stopped c = ((let b = c.begin_file.ensures in
+    let split = b.rest _ c.in-Rest.is in
+    rw c.in-Fine.is
+    (rows_refused (file c.before.before.before.before.before.before.before.before.before.before.before.before.before.before.before.before.before.before.before.before.before.before) c.args.form (agrees c.before.before.before.before.before.before.before.before.before.before.before.before.before.before.before.before.before.before.before.before.before.before) c.args.header.now c.args.text.now c.args.t.now (others c) split.all _ b.test
+    (ap begin_test c.in-Rest.is) _ _ _ _ _ c.read_rows.ensures b.kept _ _ c.in-Stopped.is))).kept
 
 pub shape_of-t-in-AllRead : goal.shape_of-t-in-AllRead
-shape_of-t-in-AllRead c = (returns-in-AllRead c).kept
+shape_of-t-in-AllRead c = ((let b = c.begin_file.ensures in
+    let split = b.rest _ c.in-Rest.is in
+    rw c.in-Fine.is
+    (rows_accepted (file c.before.before.before.before.before.before.before.before.before.before.before.before.before.before.before.before.before.before.before.before.before.before.before.before.before.before) c.args.form (agrees c.before.before.before.before.before.before.before.before.before.before.before.before.before.before.before.before.before.before.before.before.before.before.before.before.before.before) c.args.header.now c.args.text.now c.args.t.now (others c.before.before.before.before.before.before.before.before.before) split.all _ b.test
+    (ap begin_test c.in-Rest.is) _ _ _ _ _ c.read_rows.ensures b.kept _ _
+    c.in-AllRead.is c.set_rises.ensures
+    (begun_first c.args.file _ _ _ split.begun) refl))).kept

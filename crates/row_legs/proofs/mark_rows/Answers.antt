@@ -19,7 +19,7 @@ pub loop-i-preserved : goal.loop-i-preserved
 loop-i-preserved c =
     let a = c.args in
     marked_next a.t.now a.marks.now c.loop-i.marks a.from a.to a.n a.kind c.loop-i.i c.loop-i-test.true c.loop-i.invariant
-    _ _ c.mark_at.ensures (not-false _ c.if-not-mark_at.false-raw) c.mark_at.auto.1.1.1.1.0
+    _ _ c.mark_at.ensures (not-false _ c.if-not-mark_at.false-raw) c.mark_at.auto.marks
 
 pub returns : goal.returns
 returns c =

@@ -8,7 +8,7 @@ pub returns-then-to-from : goal.returns-then-to-from
 returns-then-to-from c =
     let a = c.args in
     moved_front a.t.now a.from a.end a.to c.requires (omega (arith, c.if-to-from.true))
-    c.copy_to_front.new.0 c.copy_to_front.ensures _ (omega arith) c.clear.new.0 c.clear.ensures
+    c.copy_to_front.new.t c.copy_to_front.ensures _ (omega arith) c.clear.new.t c.clear.ensures
 
 pub returns-then-from-to : goal.returns-then-from-to
 returns-then-from-to c =

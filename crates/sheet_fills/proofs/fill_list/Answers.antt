@@ -31,8 +31,8 @@ put_answers-requires c =
     let qs = c.args.questions.now in
     let list = c.args.answers.now in (
       ready _ _ _ _ _ _ _ _ _ _ c.requires.0 c.count_rows-counts.ensures put.0 put.1,
-      still_told c.args.services-told _ _ c.args.timetbls.now c.args.places.now _ _ c.count_rows-counts.ensures.timetbls c.requires.2
-          c.place_asked.ensures put.2 c.index_heads.auto.1.1.1.1.0,
+      still_told c.args.services_told _ _ c.args.timetbls.now c.args.places.now _ _ c.count_rows-counts.ensures.timetbls c.requires.2
+          c.place_asked.ensures put.2 c.index_heads.auto.places,
       asked_there qs list,
       answers_there qs list (omega (arith, c.if-answers-asked.false)),
     )

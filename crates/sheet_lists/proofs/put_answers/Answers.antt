@@ -25,7 +25,7 @@ loop-q-preserved c =
     let h = c.loop-q-test.true in
     let all : c.args.asked * answer_width ≤ length c.loop-q.answers = rw c.loop-q.invariant.0 c.requires.3 in
     let room = row_inside answer_width c.loop-q.q c.args.asked (length c.loop-q.answers) h all in (
-      c.put_answer.auto.1.1.1.1.1.1.1.1.1.1.1.1.1.0 ∙ c.loop-q.invariant.0,
+      c.put_answer.auto.answers ∙ c.loop-q.invariant.0,
       λ R rows. goes_on _ _ _ _ _ _ (c.loop-q.invariant.1 R rows) _ h room (c.put_answer.ensures R rows),
     )
 

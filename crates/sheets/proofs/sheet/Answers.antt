@@ -23,13 +23,13 @@ returns-in_default c =
 pub fill_list-requires : goal.fill_list-requires
 fill_list-requires c =
     let are-sound : sound (lent c.before.before.before.before.before.before.before.before.before.before.before.before.before.before.before.before.before.before.before.before.before) ≡ true = told_sound (lent c.before.before.before.before.before.before.before.before.before.before.before.before.before.before.before.before.before.before.before.before.before) _ _ c.tell_soundness.ensures _ c.in-Sound.is in (
-      leant (lent c.before.before.before.before.before.before.before.before.before.before.before.before.before.before.before.before.before.before.before.before.before) (are-sound),
-      tested (lent c.before.before.before.before.before.before.before.before.before.before.before.before.before.before.before.before.before.before.before.before.before) (are-sound),
+      leant (lent c.before.before.before.before.before.before.before.before.before.before.before.before.before.before.before.before.before.before.before.before.before) are-sound,
+      tested (lent c.before.before.before.before.before.before.before.before.before.before.before.before.before.before.before.before.before.before.before.before.before) are-sound,
       told_services (lent c.before.before.before.before.before.before.before.before.before.before.before.before.before.before.before.before.before.before.before.before.before) _ _ c.tell_soundness.ensures _ c.in-Sound.is,
     )
 
 pub returns : goal.returns
 returns c =
     let are-sound : sound (lent c.before.before.before.before.before.before.before.before.before.before.before.before.before.before.before.before.before.before.before.before.before.before.before.before.before) ≡ true = told_sound (lent c.before.before.before.before.before.before.before.before.before.before.before.before.before.before.before.before.before.before.before.before.before.before.before.before.before) _ _ c.tell_soundness.ensures _ c.in-Sound.is in
-    sheeted (lent c.before.before.before.before.before.before.before.before.before.before.before.before.before.before.before.before.before.before.before.before.before.before.before.before.before) c.args.questions.now c.args.answers.now (are-sound) _ _
+    sheeted (lent c.before.before.before.before.before.before.before.before.before.before.before.before.before.before.before.before.before.before.before.before.before.before.before.before.before) c.args.questions.now c.args.answers.now are-sound _ _
     (c.fill_list.ensures (rows_of_tables (lent c.before.before.before.before.before.before.before.before.before.before.before.before.before.before.before.before.before.before.before.before.before.before.before.before.before)) (own_rows (lent c.before.before.before.before.before.before.before.before.before.before.before.before.before.before.before.before.before.before.before.before.before.before.before.before.before)))

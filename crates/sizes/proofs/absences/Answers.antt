@@ -10,8 +10,8 @@ pub returns : goal.returns
 returns c =
     let a = c.args in
     let there = there_by
-    (eleven a.n-delivery a.n-company a.n-country a.n-trnsmode a.n-timezone a.n-stations a.n-footnote a.n-timetbls
-    a.n-changes a.n-xfootnote a.n-xchanges) in
+    (eleven a.n_delivery a.n_company a.n_country a.n_trnsmode a.n_timezone a.n_stations a.n_footnote a.n_timetbls
+    a.n_changes a.n_xfootnote a.n_xchanges) in
     in_order_lem (absence_verdict there) a.v
     (c.absence_test-v1.ensures there refl refl)
     (c.absence_test-v2.ensures there refl refl)

@@ -10,8 +10,8 @@ pub returns : goal.returns
 returns c =
     let a = c.args in
     let L : PerFile ℕ =
-    eleven a.n-delivery a.n-company a.n-country a.n-trnsmode a.n-timezone a.n-stations a.n-footnote a.n-timetbls
-    a.n-changes a.n-xfootnote a.n-xchanges in
+    eleven a.n_delivery a.n_company a.n_country a.n_trnsmode a.n_timezone a.n_stations a.n_footnote a.n_timetbls
+    a.n_changes a.n_xfootnote a.n_xchanges in
     in_order_lem (λ f. length_within a.most f (of L f)) Fine
     c.length_test-v1.ensures
     c.length_test-v2.ensures

@@ -15,8 +15,8 @@ returns c =
     eleven a.delivery.now a.company.now a.country.now a.trnsmode.now a.timezone.now a.stations.now
     a.footnote.now a.timetbls.now a.changes.now a.xfootnote.now a.xchanges.now in
     let R : PerFile ℕ =
-    eleven a.r-delivery a.r-company a.r-country a.r-trnsmode a.r-timezone a.r-stations a.r-footnote a.r-timetbls
-    a.r-changes a.r-xfootnote a.r-xchanges in
+    eleven a.r_delivery a.r_company a.r_country a.r_trnsmode a.r_timezone a.r_stations a.r_footnote a.r_timetbls
+    a.r_changes a.r_xfootnote a.r_xchanges in
     in_order_lem (λ f. room_verdict f (length (lines (of F f))) (of R f)) a.v
     c.room_test-v1.ensures
     c.room_test-v2.ensures

@@ -45,7 +45,7 @@ returns-in_default c =
     c.args.timetbls.now = c.judge_blocks.ensures.says (context_of (rows_of_tables (tables c.before.before.before.before.before.before.before.before.before.before.before.before.before.before.before.before.before.before.before.before.before.before.before.before.before))) (block_keys_lem (tables c.before.before.before.before.before.before.before.before.before.before.before.before.before.before.before.before.before.before.before.before.before.before.before.before.before) c.args.used c.requires.0) in
     unsound (tables c.before.before.before.before.before.before.before.before.before.before.before.before.before.before.before.before.before.before.before.before.before.before.before.before.before) _
     (not_timetbls (tables c.before.before.before.before.before.before.before.before.before.before.before.before.before.before.before.before.before.before.before.before.before.before.before.before.before) c.args.first.now c.requires.1 _ c.form_of-form.ensures c.requires.3
-    (sym (timetbls-is) ∙ ap is_right c.in_default.is))
+    (sym timetbls-is ∙ ap is_right c.in_default.is))
 
 pub are_right_behind-requires : goal.are_right_behind-requires
 are_right_behind-requires c =
@@ -68,8 +68,8 @@ returns-then-not-names_at c =
     c.names_at.ensures
     ∙ ap (has (own_company a.first.now)) (keys_counted (Rows Company) a.company.now a.used.company c.requires.0.company)
     ∙ by_company (tables c.before.before.before.before.before.before.before.before.before.before.before.before.before.before.before.before.before.before.before.before.before.before.before.before.before.before.before.before.before.before.before.before.before.before.before) a.first.now c.requires.1 _ c.form_of-form.ensures c.requires.3
-    (sym c.are_framed.ensures ∙ not-false _ c.if-not-are_framed.left)
-    (sym (timetbls-is) ∙ ap is_right c.in-Right.is)
+    (sym c.are_framed.ensures ∙ not-false _ c.if-not-are_framed.false-raw)
+    (sym timetbls-is ∙ ap is_right c.in-Right.is)
     (sym (c.are_right_behind.ensures (form_is (tables c.before.before.before.before.before.before.before.before.before.before.before.before.before.before.before.before.before.before.before.before.before.before.before.before.before.before.before.before.before.before.before.before.before.before.before) a.first.now c.requires.1 _ c.form_of-form.ensures c.requires.3))
     ∙ not-false _ c.if-not-are_right_behind.false-raw) in
     unsound (tables c.before.before.before.before.before.before.before.before.before.before.before.before.before.before.before.before.before.before.before.before.before.before.before.before.before.before.before.before.before.before.before.before.before.before.before) _ (sym (not-true _ c.if-not-names_at.true-raw) ∙ company-is)
@@ -83,8 +83,8 @@ returns-then-asked c =
     c.names_at.ensures
     ∙ ap (has (own_company a.first.now)) (keys_counted (Rows Company) a.company.now a.used.company c.requires.0.company)
     ∙ by_company (tables c.before.before.before.before.before.before.before.before.before.before.before.before.before.before.before.before.before.before.before.before.before.before.before.before.before.before.before.before.before.before.before.before.before.before.before.before) a.first.now c.requires.1 _ c.form_of-form.ensures c.requires.3
-    (sym c.are_framed.ensures ∙ not-false _ c.if-not-are_framed.left)
-    (sym (timetbls-is) ∙ ap is_right c.in-Right.is)
+    (sym c.are_framed.ensures ∙ not-false _ c.if-not-are_framed.false-raw)
+    (sym timetbls-is ∙ ap is_right c.in-Right.is)
     (sym (c.are_right_behind.ensures (form_is (tables c.before.before.before.before.before.before.before.before.before.before.before.before.before.before.before.before.before.before.before.before.before.before.before.before.before.before.before.before.before.before.before.before.before.before.before.before) a.first.now c.requires.1 _ c.form_of-form.ensures c.requires.3))
     ∙ not-false _ c.if-not-are_right_behind.false-raw) in
     hinted (tables c.before.before.before.before.before.before.before.before.before.before.before.before.before.before.before.before.before.before.before.before.before.before.before.before.before.before.before.before.before.before.before.before.before.before.before.before) _ (sym (not-false _ c.if-not-names_at.false-raw) ∙ company-is)
@@ -98,8 +98,8 @@ returns c =
     c.names_at.ensures
     ∙ ap (has (own_company a.first.now)) (keys_counted (Rows Company) a.company.now a.used.company c.requires.0.company)
     ∙ by_company (tables c.before.before.before.before.before.before.before.before.before.before.before.before.before.before.before.before.before.before.before.before.before.before.before.before.before.before.before.before.before.before.before.before.before.before.before.before) a.first.now c.requires.1 _ c.form_of-form.ensures c.requires.3
-    (sym c.are_framed.ensures ∙ not-false _ c.if-not-are_framed.left)
-    (sym (timetbls-is) ∙ ap is_right c.in-Right.is)
+    (sym c.are_framed.ensures ∙ not-false _ c.if-not-are_framed.false-raw)
+    (sym timetbls-is ∙ ap is_right c.in-Right.is)
     (sym (c.are_right_behind.ensures (form_is (tables c.before.before.before.before.before.before.before.before.before.before.before.before.before.before.before.before.before.before.before.before.before.before.before.before.before.before.before.before.before.before.before.before.before.before.before.before) a.first.now c.requires.1 _ c.form_of-form.ensures c.requires.3))
     ∙ not-false _ c.if-not-are_right_behind.false-raw) in
     indexed (tables c.before.before.before.before.before.before.before.before.before.before.before.before.before.before.before.before.before.before.before.before.before.before.before.before.before.before.before.before.before.before.before.before.before.before.before.before) _ (sym (not-false _ c.if-not-names_at.false-raw) ∙ company-is) _ _ (c.index_in_rows-asked.ensures.1 c.if-asked.false)
@@ -110,14 +110,14 @@ bounds-first-1 c = omega (arith, c.requires.2)
 
 pub shape_of-places-then-asked : goal.shape_of-places-then-asked
 shape_of-places-then-asked c =
-    let slots_kept : length c.index_in_rows-asked.new.1.1.1.1.0 ≡ length c.args.places.now = c.index_in_rows-asked.auto.1.1.1.1.0
-    ∙ c.judge_blocks.auto.1.1.1.1.1.1.1.1.0
-    ∙ c.are_framed.auto.1.1.1.1.1.1.1.1.1.1.1.1.1.1.0 in
+    let slots_kept : length c.index_in_rows-asked.new.places ≡ length c.args.places.now = c.index_in_rows-asked.auto.places
+    ∙ c.judge_blocks.auto.places
+    ∙ c.are_framed.auto.places in
     slots_kept
 
 pub shape_of-places : goal.shape_of-places
 shape_of-places c =
-    let slots_kept : length c.index_in_rows-asked.new.1.1.1.1.0 ≡ length c.args.places.now = c.index_in_rows-asked.auto.1.1.1.1.0
-    ∙ c.judge_blocks.auto.1.1.1.1.1.1.1.1.0
-    ∙ c.are_framed.auto.1.1.1.1.1.1.1.1.1.1.1.1.1.1.0 in
+    let slots_kept : length c.index_in_rows-asked.new.places ≡ length c.args.places.now = c.index_in_rows-asked.auto.places
+    ∙ c.judge_blocks.auto.places
+    ∙ c.are_framed.auto.places in
     slots_kept

@@ -38,16 +38,16 @@ is_framed-with_xchanges-requires c = (c.requires.0.xchanges, c.requires.1)
 
 pub shape_of-places : goal.shape_of-places
 shape_of-places c =
-    c.is_framed-with_xchanges.auto.1.1.1.1.1.1.0
-    ∙ c.is_framed-with_xfootnote.auto.1.1.1.1.1.1.0
-    ∙ c.is_framed-with_changes.auto.1.1.1.1.1.1.0
-    ∙ c.is_framed-with_footnote.auto.1.1.1.1.1.1.0
-    ∙ c.is_framed-with_stations.auto.1.1.1.1.1.1.0
-    ∙ c.is_framed-with_timezone.auto.1.1.1.1.1.1.0
-    ∙ c.is_framed-with_trnsmode.auto.1.1.1.1.1.1.0
-    ∙ c.is_framed-with_country.auto.1.1.1.1.1.1.0
-    ∙ c.is_framed-with_company.auto.1.1.1.1.1.1.0
-    ∙ c.is_framed-with_delivery.auto.1.1.1.1.1.1.0
+    c.is_framed-with_xchanges.auto.places
+    ∙ c.is_framed-with_xfootnote.auto.places
+    ∙ c.is_framed-with_changes.auto.places
+    ∙ c.is_framed-with_footnote.auto.places
+    ∙ c.is_framed-with_stations.auto.places
+    ∙ c.is_framed-with_timezone.auto.places
+    ∙ c.is_framed-with_trnsmode.auto.places
+    ∙ c.is_framed-with_country.auto.places
+    ∙ c.is_framed-with_company.auto.places
+    ∙ c.is_framed-with_delivery.auto.places
 
 pub returns : goal.returns
 unfolding all_framed

@@ -21,28 +21,28 @@ tables s =
 pub returns-then-not-are_there : goal.returns-then-not-are_there
 returns-then-not-are_there c =
     let counted : Counted (tables c.before.before.before.before.before.before.before.before.before.before.before.before.before.before.before.before) c.count_rows-used.result = c.count_rows-used.ensures c.args.timetbls.now in
-    let there_is : c.are_there.result ≡ all_there (rows_of_tables (tables c.before.before.before.before.before.before.before.before.before.before.before.before.before.before.before.before)) = c.are_there.ensures (tables c.before.before.before.before.before.before.before.before.before.before.before.before.before.before.before.before) (counted) c.has_blocks.ensures in
-    unsound (tables c.before.before.before.before.before.before.before.before.before.before.before.before.before.before.before.before) _ (not_there (tables c.before.before.before.before.before.before.before.before.before.before.before.before.before.before.before.before) (sym (there_is) ∙ not-true _ c.if-not-are_there.true-raw))
+    let there_is : c.are_there.result ≡ all_there (rows_of_tables (tables c.before.before.before.before.before.before.before.before.before.before.before.before.before.before.before.before)) = c.are_there.ensures (tables c.before.before.before.before.before.before.before.before.before.before.before.before.before.before.before.before) counted c.has_blocks.ensures in
+    unsound (tables c.before.before.before.before.before.before.before.before.before.before.before.before.before.before.before.before) _ (not_there (tables c.before.before.before.before.before.before.before.before.before.before.before.before.before.before.before.before) (sym there_is ∙ not-true _ c.if-not-are_there.true-raw))
 
 pub slice_bounds-first-end : goal.slice_bounds-first-end
 slice_bounds-first-end c =
     let counted : Counted (tables c.before.before.before.before.before.before.before.before.before.before.before.before.before.before.before.before) c.count_rows-used.result = c.count_rows-used.ensures c.args.timetbls.now in
-    let there_is : c.are_there.result ≡ all_there (rows_of_tables (tables c.before.before.before.before.before.before.before.before.before.before.before.before.before.before.before.before)) = c.are_there.ensures (tables c.before.before.before.before.before.before.before.before.before.before.before.before.before.before.before.before) (counted) c.has_blocks.ensures in
-    let held : 0 < c.count_rows-used.result.delivery = omega (arith, delivery_held (tables c.before.before.before.before.before.before.before.before.before.before.before.before.before.before.before.before) (sym (there_is) ∙ not-false _ c.if-not-are_there.false-raw), (counted).delivery) in
+    let there_is : c.are_there.result ≡ all_there (rows_of_tables (tables c.before.before.before.before.before.before.before.before.before.before.before.before.before.before.before.before)) = c.are_there.ensures (tables c.before.before.before.before.before.before.before.before.before.before.before.before.before.before.before.before) counted c.has_blocks.ensures in
+    let held : 0 < c.count_rows-used.result.delivery = omega (arith, delivery_held (tables c.before.before.before.before.before.before.before.before.before.before.before.before.before.before.before.before) (sym there_is ∙ not-false _ c.if-not-are_there.false-raw), counted.delivery) in
     let a = c.args in
-    let h = first_inside Delivery a.delivery.now _ (counted).delivery (held) in
+    let h = first_inside Delivery a.delivery.now _ counted.delivery held in
     omega (arith, h)
 
 pub are_all_sound-requires : goal.are_all_sound-requires
 are_all_sound-requires c =
     let counted : Counted (tables c.before.before.before.before.before.before.before.before.before.before.before.before.before.before.before.before.before.before) c.count_rows-used.result = c.count_rows-used.ensures c.args.timetbls.now in
-    let there_is : c.are_there.result ≡ all_there (rows_of_tables (tables c.before.before.before.before.before.before.before.before.before.before.before.before.before.before.before.before.before.before)) = c.are_there.ensures (tables c.before.before.before.before.before.before.before.before.before.before.before.before.before.before.before.before.before.before) (counted) c.has_blocks.ensures in
-    let held : 0 < c.count_rows-used.result.delivery = omega (arith, delivery_held (tables c.before.before.before.before.before.before.before.before.before.before.before.before.before.before.before.before.before.before) (sym (there_is) ∙ not-false _ c.if-not-are_there.false-raw), (counted).delivery) in
+    let there_is : c.are_there.result ≡ all_there (rows_of_tables (tables c.before.before.before.before.before.before.before.before.before.before.before.before.before.before.before.before.before.before)) = c.are_there.ensures (tables c.before.before.before.before.before.before.before.before.before.before.before.before.before.before.before.before.before.before) counted c.has_blocks.ensures in
+    let held : 0 < c.count_rows-used.result.delivery = omega (arith, delivery_held (tables c.before.before.before.before.before.before.before.before.before.before.before.before.before.before.before.before.before.before) (sym there_is ∙ not-false _ c.if-not-are_there.false-raw), counted.delivery) in
     let a = c.args in
     let k = counted in
-    let r = first_row_lem Delivery a.delivery.now _ k.delivery (held) in
-    let w = first_wide Delivery a.delivery.now 6 refl (first_inside Delivery a.delivery.now _ k.delivery (held)) in
-    (k, r.0, omega (arith, w), sym (there_is) ∙ not-false _ c.if-not-are_there.false-raw)
+    let r = first_row_lem Delivery a.delivery.now _ k.delivery held in
+    let w = first_wide Delivery a.delivery.now 6 refl (first_inside Delivery a.delivery.now _ k.delivery held) in
+    (k, r.0, omega (arith, w), sym there_is ∙ not-false _ c.if-not-are_there.false-raw)
 
 pub returns : goal.returns
 returns c = c.are_all_sound.ensures

@@ -32,7 +32,7 @@ pub are_blocks_sound-requires : goal.are_blocks_sound-requires
 are_blocks_sound-requires c =
     let first_tag : tag (row_at (row_width Timetbls) c.args.t.now 0) ≡ at = let a = c.args in
     sym (tag_first Timetbls a.t.now) ∙ sym c.word_or_zero.ensures ∙ c.if-word_or_zero-ne-AT.false in
-    (omega (arith, c.requires.0), no_key Timetbls _ (first_tag))
+    (omega (arith, c.requires.0), no_key Timetbls _ first_tag)
 
 pub returns-in_default : goal.returns-in_default
 returns-in_default c =
@@ -41,7 +41,7 @@ returns-in_default c =
     let a = c.args in
     wrong _ _ _ _ _ a.form a.delivery.now a.t.now _
     (λ x agree.
-    blocks_refused a.t.now (length (rows_in Timetbls a.t.now)) refl c.requires.0 a.form a.delivery.now x (first_tag)
+    blocks_refused a.t.now (length (rows_in Timetbls a.t.now)) refl c.requires.0 a.form a.delivery.now x first_tag
     (sym (ap are_sound c.in_default.is) ∙ c.are_blocks_sound.ensures.0.says x agree))
 
 pub overflow_mul-used : goal.overflow_mul-used

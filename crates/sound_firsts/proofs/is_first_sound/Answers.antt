@@ -38,7 +38,7 @@ returns-then-not-first_means c later u =
     let wide : 6 ≤ length c.args.row.now = omega (arith, (widths c.args.file).wide, c.requires.0) in
     let a = c.args in
     let w = wide in
-    first_by a.file a.delivery.now a.row.now later true true false _ _ _ false (eq-eqb _ _ c.if-row-ne-AT.left)
+    first_by a.file a.delivery.now a.row.now later true true false _ _ _ false (eq-eqb _ _ c.if-row-ne-AT.false)
     (sym (c.is_shaped.ensures ∙ kept_shape _ a.row.now (omega arith)) ∙ not-false _ c.if-not-is_shaped.false-raw)
     (sym c.first_means.ensures ∙ not-true _ c.if-not-first_means.true-raw) refl refl refl refl
 
@@ -47,8 +47,8 @@ returns-then-not-same_words c later u =
     let wide : 6 ≤ length c.args.row.now = omega (arith, (widths c.args.file).wide, c.requires.0) in
     let a = c.args in
     let w = wide in
-    first_by a.file a.delivery.now a.row.now later true true true false _ _ false (eq-eqb _ _ c.if-row-ne-AT.left)
-    (sym (c.is_shaped.ensures ∙ kept_shape _ a.row.now (omega arith)) ∙ not-false _ c.if-not-is_shaped.left)
+    first_by a.file a.delivery.now a.row.now later true true true false _ _ false (eq-eqb _ _ c.if-row-ne-AT.false)
+    (sym (c.is_shaped.ensures ∙ kept_shape _ a.row.now (omega arith)) ∙ not-false _ c.if-not-is_shaped.false-raw)
     (sym c.first_means.ensures ∙ not-false _ c.if-not-first_means.false-raw)
     (sym c.same_words.ensures ∙ not-true _ c.if-not-same_words.true-raw) refl refl refl
 
@@ -57,9 +57,9 @@ returns-then-not-is_flag c later u =
     let wide : 6 ≤ length c.args.row.now = omega (arith, (widths c.args.file).wide, c.requires.0) in
     let a = c.args in
     let w = wide in
-    first_by a.file a.delivery.now a.row.now later true true true true false _ false (eq-eqb _ _ c.if-row-ne-AT.left)
-    (sym (c.is_shaped.ensures ∙ kept_shape _ a.row.now (omega arith)) ∙ not-false _ c.if-not-is_shaped.left)
-    (sym c.first_means.ensures ∙ not-false _ c.if-not-first_means.left)
+    first_by a.file a.delivery.now a.row.now later true true true true false _ false (eq-eqb _ _ c.if-row-ne-AT.false)
+    (sym (c.is_shaped.ensures ∙ kept_shape _ a.row.now (omega arith)) ∙ not-false _ c.if-not-is_shaped.false-raw)
+    (sym c.first_means.ensures ∙ not-false _ c.if-not-first_means.false-raw)
     (sym c.same_words.ensures ∙ not-false _ c.if-not-same_words.false-raw)
     (sym (c.is_flag.ensures ∙ ap (λ b. eqb (rises a.row.now) (flag b)) u) ∙ not-true _ c.if-not-is_flag.true-raw) refl refl
 
@@ -68,10 +68,10 @@ returns c later u =
     let wide : 6 ≤ length c.args.row.now = omega (arith, (widths c.args.file).wide, c.requires.0) in
     let a = c.args in
     let w = wide in
-    first_by a.file a.delivery.now a.row.now later true true true true true _ _ (eq-eqb _ _ c.if-row-ne-AT.left)
-    (sym (c.is_shaped.ensures ∙ kept_shape _ a.row.now (omega arith)) ∙ not-false _ c.if-not-is_shaped.left)
-    (sym c.first_means.ensures ∙ not-false _ c.if-not-first_means.left)
-    (sym c.same_words.ensures ∙ not-false _ c.if-not-same_words.left)
+    first_by a.file a.delivery.now a.row.now later true true true true true _ _ (eq-eqb _ _ c.if-row-ne-AT.false)
+    (sym (c.is_shaped.ensures ∙ kept_shape _ a.row.now (omega arith)) ∙ not-false _ c.if-not-is_shaped.false-raw)
+    (sym c.first_means.ensures ∙ not-false _ c.if-not-first_means.false-raw)
+    (sym c.same_words.ensures ∙ not-false _ c.if-not-same_words.false-raw)
     (sym (c.is_flag.ensures ∙ ap (λ b. eqb (rises a.row.now) (flag b)) u) ∙ not-false _ c.if-not-is_flag.false-raw)
     refl c.is_right_behind.ensures
 

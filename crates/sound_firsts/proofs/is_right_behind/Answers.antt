@@ -14,7 +14,7 @@ bounds-row-6 c = omega (arith, c.requires ∙ ap row_width c.in-Timetbls.is)
 pub returns-then-row-ne1 : goal.returns-then-row-ne1
 returns-then-row-ne1 c =
     let f = c.in-Timetbls.is in
-    rw f (number_behind c.args.row.now false false (bounds-row-6 c) (ne_eqb _ _ c.if-row-ne1.true) refl)
+    rw f (number_behind c.args.row.now false false ((omega (arith, c.requires ∙ ap row_width c.in-Timetbls.is))) (ne_eqb _ _ c.if-row-ne1.true) refl)
 
 pub returns-in-Delivery : goal.returns-in-Delivery
 returns-in-Delivery c =
@@ -34,4 +34,4 @@ returns-in-Groups c =
 pub returns-else-row-ne1 : goal.returns-else-row-ne1
 returns-else-row-ne1 c =
     let f = c.in-Timetbls.is in
-    rw f (number_behind c.args.row.now true _ (bounds-row-6 c) (eq-eqb _ _ c.if-row-ne1.false) c.zero_from-in-Timetbls.ensures)
+    rw f (number_behind c.args.row.now true _ ((omega (arith, c.requires ∙ ap row_width c.in-Timetbls.is))) (eq-eqb _ _ c.if-row-ne1.false) c.zero_from-in-Timetbls.ensures)

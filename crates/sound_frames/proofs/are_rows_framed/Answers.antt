@@ -20,7 +20,7 @@ index_keys-keys-requires c =
     let first_tag : tag (row_at (row_width c.args.file) c.args.t.now 0) ≡ at = let a = c.args in
     sym (tag_first a.file a.t.now) ∙ sym c.word_or_zero.ensures ∙ c.if-word_or_zero-ne-AT.false in
     let a = c.args in
-    (inside a.file a.t.now a.used c.requires.1, no_key a.file _ (first_tag))
+    (inside a.file a.t.now a.used c.requires.1, no_key a.file _ first_tag)
 
 pub returns-then-not-keys : goal.returns-then-not-keys
 returns-then-not-keys c =
@@ -29,10 +29,10 @@ returns-then-not-keys c =
     let keys_are : c.index_keys-keys.result.distinct
     ≡ are_distinct (keys_of c.args.file (rows_between (row_width c.args.file) c.args.t.now 1 c.args.used)) = let a = c.args in
     c.index_keys-keys.ensures.0.distinct
-    ∙ ap are_distinct (later_keys a.file a.t.now a.used c.requires.1 c.requires.0 (first_tag)) in
+    ∙ ap are_distinct (later_keys a.file a.t.now a.used c.requires.1 c.requires.0 first_tag) in
     let a = c.args in
     not_distinct a.file a.t.now a.used c.requires.1 a.form a.delivery.now c.requires.0
-    (sym (keys_are) ∙ not-true _ c.if-not-keys.true)
+    (sym keys_are ∙ not-true _ c.if-not-keys.true)
 
 pub are_rows_framed_by-requires : goal.are_rows_framed_by-requires
 are_rows_framed_by-requires c = c.requires
@@ -44,9 +44,9 @@ returns c =
     let keys_are : c.index_keys-keys.result.distinct
     ≡ are_distinct (keys_of c.args.file (rows_between (row_width c.args.file) c.args.t.now 1 c.args.used)) = let a = c.args in
     c.index_keys-keys.ensures.0.distinct
-    ∙ ap are_distinct (later_keys a.file a.t.now a.used c.requires.1 c.requires.0 (first_tag)) in
+    ∙ ap are_distinct (later_keys a.file a.t.now a.used c.requires.1 c.requires.0 first_tag) in
     let a = c.args in
     let d = not-false _ c.if-not-keys.false in
-    c.are_rows_framed_by.ensures (sym (keys_are) ∙ d)
+    c.are_rows_framed_by.ensures (sym keys_are ∙ d)
     (c.index_keys-keys.ensures.0.rise d
-    ∙ ap rising (later_keys a.file a.t.now a.used c.requires.1 c.requires.0 (first_tag)))
+    ∙ ap rising (later_keys a.file a.t.now a.used c.requires.1 c.requires.0 first_tag))

@@ -29,8 +29,8 @@ returns-then-not-zero_from c =
     c.zero_from.ensures ∙ ap (λ w. all_zero (drop (a.used * w) a.t.now)) c.row_width-w.ensures.is in
     let going : c.args.so_far ≡ true = not-false _ c.if-not-so_far.false-raw in
     let a = c.args in
-    not_zero a.file a.t.now a.used c.requires.0 a.form a.delivery.now (sym (zero_is) ∙ not-true _ c.if-not-zero_from.true-raw)
-    ∙ ap (λ b. b && framed a.form a.delivery.now a.file a.t.now) (sym (going))
+    not_zero a.file a.t.now a.used c.requires.0 a.form a.delivery.now (sym zero_is ∙ not-true _ c.if-not-zero_from.true-raw)
+    ∙ ap (λ b. b && framed a.form a.delivery.now a.file a.t.now) (sym going)
 
 pub returns-then-used-eq0 : goal.returns-then-used-eq0
 returns-then-used-eq0 c =
@@ -38,8 +38,8 @@ returns-then-used-eq0 c =
     c.zero_from.ensures ∙ ap (λ w. all_zero (drop (a.used * w) a.t.now)) c.row_width-w.ensures.is in
     let going : c.args.so_far ≡ true = not-false _ c.if-not-so_far.false-raw in
     let a = c.args in
-    no_rows a.file a.t.now a.used c.requires.0 a.form a.delivery.now (sym (zero_is) ∙ not-false _ c.if-not-zero_from.false-raw) c.if-used-eq0.true
-    ∙ ap (λ b. b && framed a.form a.delivery.now a.file a.t.now) (sym (going))
+    no_rows a.file a.t.now a.used c.requires.0 a.form a.delivery.now (sym zero_is ∙ not-false _ c.if-not-zero_from.false-raw) c.if-used-eq0.true
+    ∙ ap (λ b. b && framed a.form a.delivery.now a.file a.t.now) (sym going)
 
 pub returns : goal.returns
 returns c =
@@ -48,5 +48,5 @@ returns c =
     let going : c.args.so_far ≡ true = not-false _ c.if-not-so_far.false-raw in
     let a = c.args in
     c.are_rows_framed.ensures
-    ∙ some_rows a.file a.t.now a.used c.requires.0 a.form a.delivery.now (sym (zero_is) ∙ not-false _ c.if-not-zero_from.false-raw)
-    ∙ ap (λ b. b && framed a.form a.delivery.now a.file a.t.now) (sym (going))
+    ∙ some_rows a.file a.t.now a.used c.requires.0 a.form a.delivery.now (sym zero_is ∙ not-false _ c.if-not-zero_from.false-raw)
+    ∙ ap (λ b. b && framed a.form a.delivery.now a.file a.t.now) (sym going)

@@ -17,13 +17,13 @@ pub returns-then-not-is_fresh : goal.returns-then-not-is_fresh
 returns-then-not-is_fresh c =
     let a = c.args in
     told_clashing a.form _ _ _ _ _ _ a.file a.from _ a.stand a.row.now c.requires.3 _ c.is_right_alone.ensures
-    (not-false _ c.if-not-is_right_alone.left) _ c.is_fresh.ensures _ (not-true _ c.if-not-is_fresh.true-raw)
+    (not-false _ c.if-not-is_right_alone.false-raw) _ c.is_fresh.ensures _ (not-true _ c.if-not-is_fresh.true-raw)
 
 pub returns-then-not-met_in_group : goal.returns-then-not-met_in_group
 returns-then-not-met_in_group c =
     let a = c.args in
     told_unmet a.form _ _ _ _ _ _ a.file a.from _ a.stand a.row.now c.requires.3 _ c.is_right_alone.ensures
-    (not-false _ c.if-not-is_right_alone.left) _ c.is_fresh.ensures (not-false _ c.if-not-is_fresh.false-raw) _ c.met_in_group.ensures _
+    (not-false _ c.if-not-is_right_alone.false-raw) _ c.is_fresh.ensures (not-false _ c.if-not-is_fresh.false-raw) _ c.met_in_group.ensures _
     (not-true _ c.if-not-met_in_group.true-raw)
 
 pub overflow_add-from : goal.overflow_add-from
@@ -34,5 +34,5 @@ pub returns : goal.returns
 returns c =
     let a = c.args in
     told_sound a.form _ _ _ _ _ _ a.file a.from _ a.stand a.row.now c.requires.3 _ c.is_right_alone.ensures
-    (not-false _ c.if-not-is_right_alone.left) _ c.is_fresh.ensures (not-false _ c.if-not-is_fresh.false-raw) _ c.met_in_group.ensures
+    (not-false _ c.if-not-is_right_alone.false-raw) _ c.is_fresh.ensures (not-false _ c.if-not-is_fresh.false-raw) _ c.met_in_group.ensures
     a.marks.now c.requires.4 _ c.remember.ensures (not-false _ c.if-not-met_in_group.false-raw)

@@ -16,18 +16,18 @@ is_sound_at-requires c =
 
 pub shape_of-marks-then-not-is_sound_at : goal.shape_of-marks-then-not-is_sound_at
 shape_of-marks-then-not-is_sound_at c =
-    c.is_sound_at.auto.1.1.1.1.1.1.1.1.1.1.1.1.1.1.0 ∙ c.loop-i.invariant.1
+    c.is_sound_at.auto.marks ∙ c.loop-i.invariant.1
 
 pub returns-then-not-is_sound_at : goal.returns-then-not-is_sound_at
 returns-then-not-is_sound_at c =
-    breaks _ _ _ _ _ _ _ _ _ _ _ _ c.requires.1 _ _ _ c.loop-i.invariant.0 c.loop-i-test.taken _ _ c.is_sound_at.ensures
+    breaks _ _ _ _ _ _ _ _ _ _ _ _ c.requires.1 _ _ _ c.loop-i.invariant.0 c.loop-i-test.true _ _ c.is_sound_at.ensures
     (not-true _ c.if-not-is_sound_at.true-raw)
 
 pub loop-i-preserved : goal.loop-i-preserved
 loop-i-preserved c = (
-  goes_on _ _ _ _ _ _ _ _ _ _ _ _ c.requires.1 _ _ _ c.loop-i.invariant.0 c.loop-i-test.taken _ _ c.is_sound_at.ensures
+  goes_on _ _ _ _ _ _ _ _ _ _ _ _ c.requires.1 _ _ _ c.loop-i.invariant.0 c.loop-i-test.true _ _ c.is_sound_at.ensures
       (not-false _ c.if-not-is_sound_at.false-raw) _ c.group_moves-stand.ensures,
-  c.is_sound_at.auto.1.1.1.1.1.1.1.1.1.1.1.1.1.1.0 ∙ c.loop-i.invariant.1,
+  c.is_sound_at.auto.marks ∙ c.loop-i.invariant.1,
 )
 
 pub returns : goal.returns

@@ -28,7 +28,7 @@ is_next_head-requires c = row_in_table (row_width Timetbls) c.loop-i.i _ c.loop-
 pub returns-then-is_next_head : goal.returns-then-is_next_head
 returns-then-is_next_head c =
     let in_use_lem : c.loop-i.i < used_in c.args.t.now = row_used c.args.t.now c.loop-i.i c.loop-i.invariant.high c.loop-i-test.true _ c.word_at.ensures c.if-word_at-eq0.false in
-    walk_stops _ _ _ _ _ c.args.t.now c.args.from _ c.requires c.loop-i.i c.loop-i.block c.loop-i.invariant (in_use_lem) _
+    walk_stops _ _ _ _ _ c.args.t.now c.args.from _ c.requires c.loop-i.i c.loop-i.block c.loop-i.invariant in_use_lem _
     c.is_next_head.ensures c.if-is_next_head.true
 
 pub overflow_sub-line : goal.overflow_sub-line
@@ -44,13 +44,13 @@ after_at-requires c =
 pub returns-in_default : goal.returns-in_default
 returns-in_default c =
     let in_use_lem : c.loop-i.i < used_in c.args.t.now = row_used c.args.t.now c.loop-i.i c.loop-i.invariant.high c.loop-i-test.true _ c.word_at.ensures c.if-word_at-eq0.false in
-    walk_falls _ _ _ _ _ c.args.t.now c.args.from _ c.requires c.loop-i.i c.loop-i.block c.loop-i.invariant (in_use_lem) _
+    walk_falls _ _ _ _ _ c.args.t.now c.args.from _ c.requires c.loop-i.i c.loop-i.block c.loop-i.invariant in_use_lem _
     c.is_next_head.ensures c.if-is_next_head.false _ c.after_at.ensures c.in_default.is
 
 pub loop-i-preserved : goal.loop-i-preserved
 loop-i-preserved c =
     let in_use_lem : c.loop-i.i < used_in c.args.t.now = row_used c.args.t.now c.loop-i.i c.loop-i.invariant.high c.loop-i-test.true _ c.word_at.ensures c.if-word_at-eq0.false in
-    walk_goes_on _ _ _ _ _ c.args.t.now c.args.from _ c.requires c.loop-i.i c.loop-i.block c.loop-i.invariant (in_use_lem) _
+    walk_goes_on _ _ _ _ _ c.args.t.now c.args.from _ c.requires c.loop-i.i c.loop-i.block c.loop-i.invariant in_use_lem _
     c.is_next_head.ensures c.if-is_next_head.false _ c.after_at.ensures _ c.in-Stands.is
 
 pub returns : goal.returns

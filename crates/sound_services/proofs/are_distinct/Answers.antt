@@ -7,7 +7,7 @@ use Rattle.repeats.proofs.KeyLaws.{again_not_distinct}
 use Rattle.sound_services.proofs.are_distinct.Goals as goal
 
 pub returns-then-done-le-INDEXED : goal.returns-then-done-le-INDEXED
-returns-then-done-le-INDEXED c = (sym (c.requires.new (omega (arith, c.if-done-le-INDEXED.taken))), refl, (λ f. refl))
+returns-then-done-le-INDEXED c = (sym (c.requires.new (omega (arith, c.if-done-le-INDEXED.true))), refl, (λ f. refl))
 
 pub first_repeat-requires : goal.first_repeat-requires
 first_repeat-requires c = c.requires.inside
@@ -27,4 +27,4 @@ returns-in-First c =
 
 pub returns-in-Untold : goal.returns-in-Untold
 returns-in-Untold c =
-    (c.index_keys-are.ensures.0.distinct, c.index_keys-are.ensures.1, (λ f. absurd (omega (arith, c.if-done-le-INDEXED.left))))
+    (c.index_keys-are.ensures.0.distinct, c.index_keys-are.ensures.1, (λ f. absurd (omega (arith, c.if-done-le-INDEXED.false))))

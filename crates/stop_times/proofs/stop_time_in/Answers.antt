@@ -10,14 +10,14 @@ times_there-requires c =
 pub returns-in-Fails : goal.returns-in-Fails
 returns-in-Fails c R d t z e =
     let a = c.args in
-    let r = service_rows_lem R a.timetbls-used a.service a.timetbls.now _ c.find_group-part.ensures t in
+    let r = service_rows_lem R a.timetbls_used a.service a.timetbls.now _ c.find_group-part.ensures t in
     times_refused R a.service a.number a.date _ r _ c.is_stop_number-right.ensures _
     (c.asked.ensures R a.service a.timetbls.now d r) _ c.in-Fails.is
 
 pub returns-in-Passes : goal.returns-in-Passes
 returns-in-Passes c R d t z e =
     let a = c.args in
-    let r = service_rows_lem R a.timetbls-used a.service a.timetbls.now _ c.find_group-part.ensures t in
+    let r = service_rows_lem R a.timetbls_used a.service a.timetbls.now _ c.find_group-part.ensures t in
     times_told_lem R a.service a.number a.date _ r _ c.is_stop_number-right.ensures _
     (c.asked.ensures R a.service a.timetbls.now d r) c.in-Passes.is _ c.stop_row-row.ensures.is _
     (c.times_there.ensures R z e)

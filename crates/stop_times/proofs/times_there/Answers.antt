@@ -9,7 +9,8 @@ arrival_on-requires c =
     (q.0, q.1, q.2, q.3, c.day_number-number.ensures.1)
 
 pub departure_on-requires : goal.departure_on-requires
-departure_on-requires c = arrival_on-requires c.before.before.before.before
+departure_on-requires c = (let q = c.requires in
+    (q.0, q.1, q.2, q.3, c.day_number-number.ensures.1))
 
 pub returns-in_default : goal.returns-in_default
 returns-in_default c R z s =

@@ -14,4 +14,4 @@ returns-in-Fails c =
 pub returns-in-Passes : goal.returns-in-Passes
 returns-in-Passes c =
     read_all _ _ _ _ _ _ _ _ _ c.stray_test.ensures c.in-Passes.is _ c.count_for_blocks-counts.ensures
-    _ _ c.walk_blocks.ensures c.walk_blocks.auto.1.1.1.1.0
+    _ _ c.walk_blocks.ensures c.walk_blocks.auto.t

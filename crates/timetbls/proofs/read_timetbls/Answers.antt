@@ -104,10 +104,43 @@ returns-in-All c =
     }
 
 pub shape_of-t-in-Broken : goal.shape_of-t-in-Broken
-shape_of-t-in-Broken c = (returns-in-Broken c).file.auto
+shape_of-t-in-Broken c = ((let a = c.args in
+    let more : 0 < length a.text.now = omega (arith, c.if-text-eq0.false) in
+    record {
+      file =
+          rw c.in-Fine.is
+          (first_refused Timetbls a.form (Agreed c.before.before.before.before.before.before.before.before.before.before.before.before.before.before.before.before.before) a.header.now a.text.now a.t.now (drop 1 (lines a.text.now))
+          (some_lines a.text.now more) _ c.begin_file.ensures.test _ _ (ap begin_test c.in-Broken.is)
+          c.begin_file.ensures.kept);
+      counted = λ z. absurd (false≢true z);
+    })).file.auto
 
 pub shape_of-t-in-Refused : goal.shape_of-t-in-Refused
-shape_of-t-in-Refused c = (returns-in-Refused c).file.auto
+shape_of-t-in-Refused c = ((let a = c.args in
+    let from = c.from-1.given in
+    let split = c.begin_file.ensures.rest _ from.1 in
+    let ls = lines (drop from.0.0 a.text.now) in
+    record {
+      file =
+          rw c.in-Fine.is
+          (rows_refused Timetbls a.form (Agreed c.before.before.before.before.before.before.before.before.before.before.before.before.before.before.before.before.before.before.before.before.before.before.before.before) a.header.now a.text.now a.t.now ls split.all _ c.begin_file.ensures.test
+          (ap begin_test from.1) _ _ _ _ _ (c.read_blocks.ensures.done _ split.begun) c.begin_file.ensures.kept
+          _ _ (ap as_read c.in-Refused.is));
+      counted = λ z. absurd (false≢true z);
+    })).file.auto
 
 pub shape_of-t-in-All : goal.shape_of-t-in-All
-shape_of-t-in-All c = (returns-in-All c).file.auto
+shape_of-t-in-All c = ((let a = c.args in
+    let from = c.from-1.given in
+    let split = c.begin_file.ensures.rest _ from.1 in
+    let ls = lines (drop from.0.0 a.text.now) in
+    let rises = c.rises-1.given in
+    let flagged = c.set_rises.ensures in
+    record {
+      file =
+          rw c.in-Fine.is
+          (rows_accepted Timetbls a.form (Agreed c.before.before.before.before.before.before.before.before.before.before.before.before.before.before.before.before.before.before.before.before.before.before.before.before.before.before.before.before) a.header.now a.text.now a.t.now ls split.all _ c.begin_file.ensures.test
+          (ap begin_test from.1) _ _ _ _ _ (c.read_blocks.ensures.done _ split.begun) c.begin_file.ensures.kept
+          _ _ (ap as_read rises.1) flagged refl refl);
+      counted = λ z. still_counted (flag rises.0.0) _ _ _ _ (c.read_blocks.ensures.counted _ _ _ rises.1) flagged;
+    })).file.auto
