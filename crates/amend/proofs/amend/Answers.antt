@@ -9,23 +9,25 @@ use Rattle.iff_desk.specs.Sound.{sound}
 use Rattle.amend.proofs.AmendLaws.{not_sound, sound_there, amended_sound}
 use Rattle.amend.proofs.amend.Goals as goal
 
--- the tables at entry
-abbrev tables : goal.Start → PerFile (List ℕ)
-tables s =
-    let a = s.args in
-    eleven a.delivery.now a.company.now a.country.now a.trnsmode.now a.timezone.now a.stations.now a.footnote.now
-    a.timetbls.now a.changes.now a.xfootnote.now a.xchanges.now
-
 pub returns-then-not-is_sound_by : goal.returns-then-not-is_sound_by
 returns-then-not-is_sound_by c =
-    not_sound (tables c.before.before.before.before.before.before.before.before.before.before.before.before.before.before.before.before) c.args.service c.args.block.now (sym c.is_sound_by.ensures ∙ not-true _ c.if-not-is_sound_by.true-raw)
+    let tables : PerFile (List ℕ) = let a = c.args in
+    eleven a.delivery.now a.company.now a.country.now a.trnsmode.now a.timezone.now a.stations.now a.footnote.now
+    a.timetbls.now a.changes.now a.xfootnote.now a.xchanges.now in
+    not_sound tables c.args.service c.args.block.now (sym c.is_sound_by.ensures ∙ not-true _ c.if-not-is_sound_by.true-raw)
 
 pub amend_there-requires : goal.amend_there-requires
 amend_there-requires c =
-    let are-sound : sound (tables c.before.before.before.before.before.before.before.before.before.before.before.before.before.before.before.before.before.before) ≡ true = sym c.is_sound_by.ensures ∙ not-false _ c.if-not-is_sound_by.false-raw in
-    sound_there (tables c.before.before.before.before.before.before.before.before.before.before.before.before.before.before.before.before.before.before) c.args.service c.args.block.now are-sound
+    let tables : PerFile (List ℕ) = let a = c.args in
+    eleven a.delivery.now a.company.now a.country.now a.trnsmode.now a.timezone.now a.stations.now a.footnote.now
+    a.timetbls.now a.changes.now a.xfootnote.now a.xchanges.now in
+    let are-sound : sound tables ≡ true = sym c.is_sound_by.ensures ∙ not-false _ c.if-not-is_sound_by.false-raw in
+    sound_there tables c.args.service c.args.block.now are-sound
 
 pub returns : goal.returns
 returns c =
-    let are-sound : sound (tables c.before.before.before.before.before.before.before.before.before.before.before.before.before.before.before.before.before.before.before.before.before) ≡ true = sym c.is_sound_by.ensures ∙ not-false _ c.if-not-is_sound_by.false-raw in
-    amended_sound (tables c.before.before.before.before.before.before.before.before.before.before.before.before.before.before.before.before.before.before.before.before.before) c.args.service c.args.block.now are-sound _ _ c.amend_there.ensures
+    let tables : PerFile (List ℕ) = let a = c.args in
+    eleven a.delivery.now a.company.now a.country.now a.trnsmode.now a.timezone.now a.stations.now a.footnote.now
+    a.timetbls.now a.changes.now a.xfootnote.now a.xchanges.now in
+    let are-sound : sound tables ≡ true = sym c.is_sound_by.ensures ∙ not-false _ c.if-not-is_sound_by.false-raw in
+    amended_sound tables c.args.service c.args.block.now are-sound _ _ c.amend_there.ensures

@@ -12,17 +12,17 @@ returns-then-fits-2 c =
     c.is_marked_at.ensures
     ∙ keys_fit (rows_in (Groups Xfootnote) a.xfootnotes.now) a.a a.b a.day
     (row_at (group_width Xchanges) a.t.now a.i) _ c.from_keys.ensures _ c.fits-then-fits.ensures
-    c.if-fits.true _ c.to_keys.ensures _ c.fits3.ensures c.if-fits-2.true
+    c.if-fits.true _ c.to_keys.ensures _ c.fits-then-fits.ensures c.if-fits-2.true
 
 pub returns-then-fits : goal.returns-then-fits
 returns-then-fits c =
     let a = c.args in
     to_misses (rows_in (Groups Xfootnote) a.xfootnotes.now) a.a a.b a.day
     (row_at (group_width Xchanges) a.t.now a.i) _ c.from_keys.ensures _ c.fits-then-fits.ensures
-    c.if-fits.true _ c.to_keys.ensures _ c.fits3.ensures c.if-fits-2.false
+    c.if-fits.true _ c.to_keys.ensures _ c.fits-then-fits.ensures c.if-fits-2.false
 
 pub returns : goal.returns
 returns c =
     let a = c.args in
     from_misses (rows_in (Groups Xfootnote) a.xfootnotes.now) a.a a.b a.day
-    (row_at (group_width Xchanges) a.t.now a.i) _ c.from_keys.ensures _ c.fits2.ensures c.if-fits.false
+    (row_at (group_width Xchanges) a.t.now a.i) _ c.from_keys.ensures _ c.fits.ensures c.if-fits.false

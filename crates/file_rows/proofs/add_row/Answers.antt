@@ -4,19 +4,16 @@ use Rattle.records.specs.Layouts.{line_of}
 use Rattle.file_rows.proofs.PlainLaws.{room_for, line_refused, row_plain, line_added}
 use Rattle.file_rows.proofs.add_row.Goals as goal
 
--- the line
-abbrev line : goal.Start → Line
-line s = line_of s.args.line.now s.args.ended
-
 pub read_line-requires : goal.read_line-requires
 read_line-requires c =
     room_for c.args.file c.args.form _ _ c.row_record-kind.ensures c.requires.0
 
 pub store_row-requires : goal.store_row-requires
 store_row-requires c =
+    let line : Line = line_of c.args.line.now c.args.ended in
     let told = c.in-Passes.is in (
       row_plain c.args.file c.args.form c.args.count c.args.before.now c.args.counts c.args.countries.now
-          c.args.zones.now (line c.before.before.before.before.before.before.before.before.before.before.before.before.before.before.before.before)
+          c.args.zones.now line
           c.args.t.now _ c.row_record-kind.ensures _ c.read_line.ensures.test told c.args.row.now _ c.requires.0
           (c.read_line.ensures.row told) _ _ _ c.requires.1.runs c.requires.1.marked,
       c.requires.1,
@@ -24,15 +21,17 @@ store_row-requires c =
 
 pub returns-in-Fails : goal.returns-in-Fails
 returns-in-Fails c =
+    let line : Line = line_of c.args.line.now c.args.ended in
     line_refused c.args.file c.args.form c.args.count c.args.before.now c.args.counts c.args.countries.now
-    c.args.zones.now (line c.before.before.before.before.before.before.before.before.before.before.before.before.before.before.before.before)
+    c.args.zones.now line
     c.args.t.now _ c.row_record-kind.ensures _ _ c.read_line.ensures.test c.in-Fails.is
 
 pub returns-in-Passes : goal.returns-in-Passes
 returns-in-Passes c =
+    let line : Line = line_of c.args.line.now c.args.ended in
     let told = c.in-Passes.is in
     line_added c.args.file c.args.form c.args.count c.args.before.now c.args.counts c.args.countries.now
-    c.args.zones.now (line c.before.before.before.before.before.before.before.before.before.before.before.before.before.before.before.before.before.before.before)
+    c.args.zones.now line
     c.args.t.now _ c.row_record-kind.ensures _ c.read_line.ensures.test told c.args.row.now _ c.requires.0
     (c.read_line.ensures.row told) _ _ c.store_row.ensures
 

@@ -82,9 +82,7 @@ pub slice_bounds-add_line-end-in-loop-at : goal.slice_bounds-add_line-end-in-loo
 slice_bounds-add_line-end-in-loop-at c = omega (arith, c.line_at-s.ensures)
 
 pub shape_of-t-in-Refused : goal.shape_of-t-in-Refused
-shape_of-t-in-Refused c = ((stops c.args.file c.args.form c.args.text.now c.args.from c.args.counts c.args.countries.now c.args.zones.now
-    c.args.t.now c.requires.0 _ _ _ _ _ c.loop-at.invariant.0 _ c.line_at-s.ensures _ _ c.add_line.ensures _ _
-    c.in-Refused.is (c.line_number.ensures ∙ omega arith))).kept
+shape_of-t-in-Refused c = (returns-in-Refused c).kept
 
 pub shape_of-marks-in-Refused : goal.shape_of-marks-in-Refused
 shape_of-marks-in-Refused c = c.loop-at.invariant.1
@@ -93,8 +91,7 @@ pub loop-at-smaller : goal.loop-at-smaller
 loop-at-smaller c = omega (arith, c.line_at-s.ensures)
 
 pub shape_of-t : goal.shape_of-t
-shape_of-t c = ((ends c.args.file c.args.form c.args.text.now c.args.from c.args.counts c.args.countries.now c.args.zones.now
-    c.args.t.now c.requires.0 _ _ _ _ _ c.loop-at.invariant.0 c.loop-at-test.false)).kept
+shape_of-t c = (returns c).kept
 
 pub shape_of-marks : goal.shape_of-marks
 shape_of-marks c = c.loop-at.invariant.1

@@ -37,8 +37,4 @@ pub bounds-row-k : goal.bounds-row-k
 bounds-row-k c = omega (arith, (widths (Rows c.args.file)).key, c.requires.0.width, c.key_word-k.ensures)
 
 pub shape_of-t-in-Passes : goal.shape_of-t-in-Passes
-shape_of-t-in-Passes c = ((row_stored c.args.file c.args.count c.args.before.now c.args.counts c.args.countries.now c.args.zones.now
-    (as_line c.args.line.now)
-    c.args.row.now c.args.t.now _ c.plain_row_test.ensures _ _ _ _
-    c.in-Passes.is refl c.requires.0.width c.requires.1.room c.put_row.ensures
-    c.key_word-k.ensures refl)).kept
+shape_of-t-in-Passes c = (returns-in-Passes c).kept

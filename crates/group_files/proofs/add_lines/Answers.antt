@@ -86,23 +86,19 @@ returns c =
     (sym c.may_end.ensures ∙ not-false _ c.if-not-may_end.false-raw)
 
 pub shape_of-t-in-Early : goal.shape_of-t-in-Early
-shape_of-t-in-Early c = ((walk_early _ _ _ _ _ _ c.requires _ _ _ _ _ c.loop-at.invariant.0 _ c.line_at-s.ensures _ _ _ c.group_line.ensures
-    c.in-Early.is _ c.line_number.ensures)).kept
+shape_of-t-in-Early c = (returns-in-Early c).kept
 
 pub shape_of-t-in-Refused : goal.shape_of-t-in-Refused
-shape_of-t-in-Refused c = ((walk_refused _ _ _ _ _ _ c.requires _ _ _ _ _ c.loop-at.invariant.0 _ c.line_at-s.ensures _ _ _ c.group_line.ensures _
-    c.in-Refused.is _ c.line_number-in-Refused.ensures)).kept
+shape_of-t-in-Refused c = (returns-in-Refused c).kept
 
 pub shape_of-t-then-not-may_end : goal.shape_of-t-then-not-may_end
-shape_of-t-then-not-may_end c = ((walk_short _ _ _ _ _ _ c.requires _ _ _ _ _ c.loop-at.invariant.0 c.loop-at-test.false
-    (sym c.may_end.ensures ∙ not-true _ c.if-not-may_end.true-raw) _ c.line_number-then-not-may_end.ensures)).kept
+shape_of-t-then-not-may_end c = (returns-then-not-may_end c).kept
 
 pub shape_of-marks-then-not-may_end : goal.shape_of-marks-then-not-may_end
 shape_of-marks-then-not-may_end c = c.loop-at.invariant.1
 
 pub shape_of-t : goal.shape_of-t
-shape_of-t c = ((walk_ends _ _ _ _ _ _ c.requires _ _ _ _ _ c.loop-at.invariant.0 c.loop-at-test.false
-    (sym c.may_end.ensures ∙ not-false _ c.if-not-may_end.false-raw))).kept
+shape_of-t c = (returns c).kept
 
 pub shape_of-marks : goal.shape_of-marks
 shape_of-marks c = c.loop-at.invariant.1

@@ -48,18 +48,10 @@ returns-in-AllRead c =
     c.read_groups.ensures _ c.in-AllRead.is _ c.set_rises.ensures
 
 pub shape_of-t-in-Broken : goal.shape_of-t-in-Broken
-shape_of-t-in-Broken c =
-    let more : 0 < length c.args.text.now = omega (arith, c.if-text-eq0.false) in
-    ((head_refused _ _ _ _ _ _ _ c.in-Fine.is more _ _ c.begin_file.ensures _ c.in-Broken.is)).kept
+shape_of-t-in-Broken c = (returns-in-Broken c).kept
 
 pub shape_of-t-in-Stopped : goal.shape_of-t-in-Stopped
-shape_of-t-in-Stopped c =
-    let more : 0 < length c.args.text.now = omega (arith, c.if-text-eq0.false) in
-    ((groups_refused _ _ _ _ _ _ _ c.in-Fine.is more _ _ c.begin_file.ensures _ c.in-Rest.is _ _
-    c.read_groups.ensures _ _ c.in-Stopped.is)).kept
+shape_of-t-in-Stopped c = (returns-in-Stopped c).kept
 
 pub shape_of-t-in-AllRead : goal.shape_of-t-in-AllRead
-shape_of-t-in-AllRead c =
-    let more : 0 < length c.args.text.now = omega (arith, c.if-text-eq0.false) in
-    ((groups_accepted _ _ _ _ _ _ _ c.in-Fine.is more _ _ c.begin_file.ensures _ c.in-Rest.is _ _
-    c.read_groups.ensures _ c.in-AllRead.is _ c.set_rises.ensures)).kept
+shape_of-t-in-AllRead c = (returns-in-AllRead c).kept

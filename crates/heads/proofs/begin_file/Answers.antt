@@ -35,8 +35,7 @@ returns-in-Passes c =
     c.requires.1 _ c.in-Passes.is c.put_first.ensures _ c.row_width-w.ensures.is
 
 pub shape_of-t : goal.shape_of-t
-shape_of-t c = ((accepted c.args.file c.args.header.now c.args.text.now c.args.t.now _ c.line_at-s.ensures _ c.first_line.ensures
-    c.requires.1 _ c.in-Passes.is c.put_first.ensures _ c.row_width-w.ensures.is)).kept
+shape_of-t c = (returns-in-Passes c).kept
 
 pub slice_bounds-first_line-end : goal.slice_bounds-first_line-end
 slice_bounds-first_line-end c = omega (arith, c.line_at-s.ensures)

@@ -25,11 +25,10 @@ begin_file-requires c =
 pub returns-then-from-text : goal.returns-then-from-text
 returns-then-from-text c =
     let b = c.begin_file.ensures in
-    let from = c.from-1.given in
-    let split = b.rest _ from.1 in
+    let split = b.rest _ c.in-Rest.is in
     let h = ap (λ l. l.body) (head_is c.args.text.now _ c.line_at-s.ensures) in
     rw c.in-Fine.is
-    (delivery_second c.args.text.now c.args.t.now _ _ split.all _ (b.test ∙ rw (← h)) b.kept (ap begin_test from.1) _ _
+    (delivery_second c.args.text.now c.args.t.now _ _ split.all _ (b.test ∙ rw (← h)) b.kept (ap begin_test c.in-Rest.is) _ _
     (line_left c.args.text.now _ c.if-from-text.true))
 
 pub returns-in-Fault : goal.returns-in-Fault
@@ -48,11 +47,10 @@ returns-in-Broken c =
 pub returns-else-from-text : goal.returns-else-from-text
 returns-else-from-text c =
     let b = c.begin_file.ensures in
-    let from = c.from-1.given in
-    let split = b.rest _ from.1 in
+    let split = b.rest _ c.in-Rest.is in
     let h = ap (λ l. l.body) (head_is c.args.text.now _ c.line_at-s.ensures) in
     rw c.in-Fine.is
-    (delivery_alone c.args.text.now c.args.t.now _ _ split.all _ (b.test ∙ rw (← h)) b.kept (ap begin_test from.1)
+    (delivery_alone c.args.text.now c.args.t.now _ _ split.all _ (b.test ∙ rw (← h)) b.kept (ap begin_test c.in-Rest.is)
     (none_left c.args.text.now _ c.if-from-text.false) split.begun.holds)
 
 pub line_at-s-requires : goal.line_at-s-requires
@@ -68,27 +66,10 @@ pub slice_bounds-begin_file-end : goal.slice_bounds-begin_file-end
 slice_bounds-begin_file-end c = omega (arith, c.line_at-s.ensures)
 
 pub shape_of-t-then-from-text : goal.shape_of-t-then-from-text
-shape_of-t-then-from-text c = ((let b = c.begin_file.ensures in
-    let from = c.from-1.given in
-    let split = b.rest _ from.1 in
-    let h = ap (λ l. l.body) (head_is c.args.text.now _ c.line_at-s.ensures) in
-    rw c.in-Fine.is
-    (delivery_second c.args.text.now c.args.t.now _ _ split.all _ (b.test ∙ rw (← h)) b.kept (ap begin_test from.1) _ _
-    (line_left c.args.text.now _ c.if-from-text.true)))).kept
+shape_of-t-then-from-text c = (returns-then-from-text c).kept
 
 pub shape_of-t-in-Broken : goal.shape_of-t-in-Broken
-shape_of-t-in-Broken c = ((let b = c.begin_file.ensures in
-    let more : 0 < length c.args.text.now = omega (arith, c.if-text-eq0.false) in
-    let h = ap (λ l. l.body) (head_is c.args.text.now _ c.line_at-s.ensures) in
-    rw c.in-Fine.is
-    (delivery_refused c.args.text.now c.args.t.now _ (drop 1 (lines c.args.text.now)) (some_lines c.args.text.now more) _
-    (b.test ∙ rw (← h)) b.kept _ (ap begin_test c.in-Broken.is)))).kept
+shape_of-t-in-Broken c = (returns-in-Broken c).kept
 
 pub shape_of-t-else-from-text : goal.shape_of-t-else-from-text
-shape_of-t-else-from-text c = ((let b = c.begin_file.ensures in
-    let from = c.from-1.given in
-    let split = b.rest _ from.1 in
-    let h = ap (λ l. l.body) (head_is c.args.text.now _ c.line_at-s.ensures) in
-    rw c.in-Fine.is
-    (delivery_alone c.args.text.now c.args.t.now _ _ split.all _ (b.test ∙ rw (← h)) b.kept (ap begin_test from.1)
-    (none_left c.args.text.now _ c.if-from-text.false) split.begun.holds))).kept
+shape_of-t-else-from-text c = (returns-else-from-text c).kept

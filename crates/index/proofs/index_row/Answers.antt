@@ -17,7 +17,7 @@ returns-then-word_at-tag c =
 pub word_at-key-requires : goal.word_at-key-requires
 word_at-key-requires c = (
   key_column c.args.file _ _ _ c.row_width-w.ensures.is c.key_tag-tag.ensures c.key_word-col.ensures,
-  (((c.row_width-w.ensures.some, rw c.row_width-w.ensures.is c.requires.room))).1,
+  (rw c.row_width-w.ensures.is c.requires.room),
 )
 
 -- the row names something, and what
@@ -35,27 +35,15 @@ put_key-requires c =
 pub returns-then-put_key : goal.returns-then-put_key
 returns-then-put_key c =
     let a = c.args in
-    let m = ((let a = c.args in (
-      c.requires,
-      (
-        names_here a.file _ _ c.row_width-w.ensures.is c.key_tag-tag.ensures a.t.now a.i _
-            c.word_at.ensures c.if-word_at-tag.false,
-        key_here a.file _ _ c.row_width-w.ensures.is c.key_word-col.ensures a.t.now a.i _ c.word_at-key.ensures,
-      ),
-    )) c.lifetimes).1 in
-    row_new a.file a.t.now a.run a.i a.places.now c.word_at-key.result _ _ c.put_key.ensures m.0 m.1
+    row_new a.file a.t.now a.run a.i a.places.now c.word_at-key.result _ _ c.put_key.ensures
+    (names_here a.file _ _ c.row_width-w.ensures.is c.key_tag-tag.ensures a.t.now a.i _ c.word_at.ensures c.if-word_at-tag.false)
+    (key_here a.file _ _ c.row_width-w.ensures.is c.key_word-col.ensures a.t.now a.i _ c.word_at-key.ensures)
     c.if-put_key.true _ c.next_run.ensures
 
 pub returns : goal.returns
 returns c =
     let a = c.args in
-    let m = ((let a = c.args in (
-      c.requires,
-      (
-        names_here a.file _ _ c.row_width-w.ensures.is c.key_tag-tag.ensures a.t.now a.i _
-            c.word_at.ensures c.if-word_at-tag.false,
-        key_here a.file _ _ c.row_width-w.ensures.is c.key_word-col.ensures a.t.now a.i _ c.word_at-key.ensures,
-      ),
-    )) c.lifetimes).1 in
-    row_came a.file a.t.now a.run a.i a.places.now c.word_at-key.result _ _ c.put_key.ensures m.0 m.1
+    row_came a.file a.t.now a.run a.i a.places.now c.word_at-key.result _ _ c.put_key.ensures
+    (names_here a.file _ _ c.row_width-w.ensures.is c.key_tag-tag.ensures a.t.now a.i _ c.word_at.ensures c.if-word_at-tag.false)
+    (key_here a.file _ _ c.row_width-w.ensures.is c.key_word-col.ensures a.t.now a.i _ c.word_at-key.ensures)
     c.if-put_key.false

@@ -5,10 +5,6 @@ use Rattle.iff.specs.Refusals.{fine}
 use Rattle.file_laws.proofs.ContextLaws.{groups_back, blocks_back}
 use Rattle.last_files.proofs.read_last_files.Goals as goal
 
--- NO FAULT NOW, SO NONE BEFORE
-abbrev Right : goal.Start → Type 0
-Right s = fine s.args.v ≡ true
-
 -- WHAT THE READERS ASK FOR
 pub read_timetbls-blocks-requires : goal.read_timetbls-blocks-requires
 read_timetbls-blocks-requires c =
@@ -16,21 +12,24 @@ read_timetbls-blocks-requires c =
 
 pub read_group_file-v2-requires : goal.read_group_file-v2-requires
 read_group_file-v2-requires c =
-    let back-timetbls : fine c.read_timetbls-blocks.result.verdict ≡ true → Right c.before.before.before.before.before.before.before.before.before.before.before.before.before.before.before.before.before.before = λ g. blocks_back c.read_timetbls-blocks.ensures.file g in
+    let Right : Type 0 = fine c.args.v ≡ true in
+    let back-timetbls : fine c.read_timetbls-blocks.result.verdict ≡ true → Right = λ g. blocks_back c.read_timetbls-blocks.ensures.file g in
     λ g. (c.requires (back-timetbls g)).changes
 
 pub read_group_file-v3-requires : goal.read_group_file-v3-requires
 read_group_file-v3-requires c =
-    let back-timetbls : fine c.read_timetbls-blocks.result.verdict ≡ true → Right c.before.before.before.before.before.before.before.before.before.before.before.before.before.before.before.before.before.before.before.before.before.before = λ g. blocks_back c.read_timetbls-blocks.ensures.file g in
-    let back-changes : fine c.read_group_file-v2.result ≡ true → Right c.before.before.before.before.before.before.before.before.before.before.before.before.before.before.before.before.before.before.before.before.before.before = λ g. back-timetbls (groups_back c.read_group_file-v2.ensures g) in
+    let Right : Type 0 = fine c.args.v ≡ true in
+    let back-timetbls : fine c.read_timetbls-blocks.result.verdict ≡ true → Right = λ g. blocks_back c.read_timetbls-blocks.ensures.file g in
+    let back-changes : fine c.read_group_file-v2.result ≡ true → Right = λ g. back-timetbls (groups_back c.read_group_file-v2.ensures g) in
     λ g. (c.requires (back-changes g)).xfootnote
 
 pub read_group_file-v4-requires : goal.read_group_file-v4-requires
 read_group_file-v4-requires c =
-    let back-timetbls : fine c.read_timetbls-blocks.result.verdict ≡ true → Right c.before.before.before.before.before.before.before.before.before.before.before.before.before.before.before.before.before.before.before.before.before.before.before.before.before.before = λ g. blocks_back c.read_timetbls-blocks.ensures.file g in
-    let back-changes : fine c.read_group_file-v2.result ≡ true → Right c.before.before.before.before.before.before.before.before.before.before.before.before.before.before.before.before.before.before.before.before.before.before.before.before.before.before = λ g. back-timetbls (groups_back c.read_group_file-v2.ensures g) in
+    let Right : Type 0 = fine c.args.v ≡ true in
+    let back-timetbls : fine c.read_timetbls-blocks.result.verdict ≡ true → Right = λ g. blocks_back c.read_timetbls-blocks.ensures.file g in
+    let back-changes : fine c.read_group_file-v2.result ≡ true → Right = λ g. back-timetbls (groups_back c.read_group_file-v2.ensures g) in
     let back-xfootnote : fine c.read_group_file-v3.result ≡ true
-    → Right c.before.before.before.before.before.before.before.before.before.before.before.before.before.before.before.before.before.before.before.before.before.before.before.before.before.before = λ g. back-changes (groups_back c.read_group_file-v3.ensures g) in
+    → Right = λ g. back-changes (groups_back c.read_group_file-v3.ensures g) in
     λ g. (c.requires (back-xfootnote g)).xchanges
 
 -- THE TABLES KEEP THEIR LENGTHS

@@ -9,36 +9,32 @@ use Rattle.iff.specs.Refusals.{fine}
 use Rattle.load_laws.proofs.LoadLaw.{Fit, roomy, firsts_ready, lasts_ready, firsts_back, loaded}
 use Rattle.load.proofs.load.Goals as goal
 
--- WHAT WAS LENT
-abbrev files : goal.Start → PerFile (List ℕ)
-files s =
-    eleven s.args.delivery.now s.args.company.now s.args.country.now s.args.trnsmode.now s.args.timezone.now
-    s.args.stations.now
-    s.args.footnote.now s.args.timetbls.now s.args.changes.now s.args.xfootnote.now s.args.xchanges.now
-
-abbrev lent : goal.Start → PerFile (List ℕ)
-lent s =
-    eleven s.args.t-delivery.now s.args.t-company.now s.args.t-country.now s.args.t-trnsmode.now s.args.t-timezone.now
-    s.args.t-stations.now
-    s.args.t-footnote.now s.args.t-timetbls.now s.args.t-changes.now s.args.t-xfootnote.now s.args.t-xchanges.now
-
-abbrev rooms : goal.Start → PerFile ℕ
-rooms s = per_file (λ f. length (of (lent s) f))
-
--- every file has room in its table
-abbrev Fits : goal.Start → Type 0
-Fits s = Fit (files s) (rooms s)
-
 pub read_first_files-first-requires : goal.read_first_files-first-requires
 read_first_files-first-requires c =
-    let fit : fine c.sizes-v0.result ≡ true → Fits c.before.before.before.before.before.before.before.before.before.before.before.before.before.before.before.before.before.before.before.before.before.before.before.before.before.before.before.before.before.before.before.before.before.before.before.before.before.before.before.before.before.before.before.before.before.before.before.before.before.before.before.before.before.before.before.before.before.before.before.before.before.before.before.before.before = λ g. roomy (files c.before.before.before.before.before.before.before.before.before.before.before.before.before.before.before.before.before.before.before.before.before.before.before.before.before.before.before.before.before.before.before.before.before.before.before.before.before.before.before.before.before.before.before.before.before.before.before.before.before.before.before.before.before.before.before.before.before.before.before.before.before.before.before.before.before) (rooms c.before.before.before.before.before.before.before.before.before.before.before.before.before.before.before.before.before.before.before.before.before.before.before.before.before.before.before.before.before.before.before.before.before.before.before.before.before.before.before.before.before.before.before.before.before.before.before.before.before.before.before.before.before.before.before.before.before.before.before.before.before.before.before.before.before) _ c.sizes-v0.ensures g in
-    λ g. firsts_ready (files c.before.before.before.before.before.before.before.before.before.before.before.before.before.before.before.before.before.before.before.before.before.before.before.before.before.before.before.before.before.before.before.before.before.before.before.before.before.before.before.before.before.before.before.before.before.before.before.before.before.before.before.before.before.before.before.before.before.before.before.before.before.before.before.before.before) (lent c.before.before.before.before.before.before.before.before.before.before.before.before.before.before.before.before.before.before.before.before.before.before.before.before.before.before.before.before.before.before.before.before.before.before.before.before.before.before.before.before.before.before.before.before.before.before.before.before.before.before.before.before.before.before.before.before.before.before.before.before.before.before.before.before.before) (eleven _ _ _ _ _ _ _ _ _ _ _) (fit g) c.clear_all.ensures
+    let files : PerFile (List ℕ) = eleven c.args.delivery.now c.args.company.now c.args.country.now c.args.trnsmode.now c.args.timezone.now
+    c.args.stations.now
+    c.args.footnote.now c.args.timetbls.now c.args.changes.now c.args.xfootnote.now c.args.xchanges.now in
+    let lent : PerFile (List ℕ) = eleven c.args.t_delivery.now c.args.t_company.now c.args.t_country.now c.args.t_trnsmode.now c.args.t_timezone.now
+    c.args.t_stations.now
+    c.args.t_footnote.now c.args.t_timetbls.now c.args.t_changes.now c.args.t_xfootnote.now c.args.t_xchanges.now in
+    let rooms : PerFile ℕ = per_file (λ f. length (of lent f)) in
+    let Fits : Type 0 = Fit files rooms in
+    let fit : fine c.sizes-v0.result ≡ true → Fits = λ g. roomy files rooms _ c.sizes-v0.ensures g in
+    λ g. firsts_ready files lent (eleven _ _ _ _ _ _ _ _ _ _ _) (fit g) c.clear_all.ensures
 
 pub read_last_files-last-requires : goal.read_last_files-last-requires
 read_last_files-last-requires c =
-    let fit : fine c.sizes-v0.result ≡ true → Fits c.before.before.before.before.before.before.before.before.before.before.before.before.before.before.before.before.before.before.before.before.before.before.before.before.before.before.before.before.before.before.before.before.before.before.before.before.before.before.before.before.before.before.before.before.before.before.before.before.before.before.before.before.before.before.before.before.before.before.before.before.before.before.before.before.before.before.before.before.before.before.before.before.before.before.before.before.before.before.before.before.before.before.before.before.before = λ g. roomy (files c.before.before.before.before.before.before.before.before.before.before.before.before.before.before.before.before.before.before.before.before.before.before.before.before.before.before.before.before.before.before.before.before.before.before.before.before.before.before.before.before.before.before.before.before.before.before.before.before.before.before.before.before.before.before.before.before.before.before.before.before.before.before.before.before.before.before.before.before.before.before.before.before.before.before.before.before.before.before.before.before.before.before.before.before.before) (rooms c.before.before.before.before.before.before.before.before.before.before.before.before.before.before.before.before.before.before.before.before.before.before.before.before.before.before.before.before.before.before.before.before.before.before.before.before.before.before.before.before.before.before.before.before.before.before.before.before.before.before.before.before.before.before.before.before.before.before.before.before.before.before.before.before.before.before.before.before.before.before.before.before.before.before.before.before.before.before.before.before.before.before.before.before.before) _ c.sizes-v0.ensures g in
+    let files : PerFile (List ℕ) = eleven c.args.delivery.now c.args.company.now c.args.country.now c.args.trnsmode.now c.args.timezone.now
+    c.args.stations.now
+    c.args.footnote.now c.args.timetbls.now c.args.changes.now c.args.xfootnote.now c.args.xchanges.now in
+    let lent : PerFile (List ℕ) = eleven c.args.t_delivery.now c.args.t_company.now c.args.t_country.now c.args.t_trnsmode.now c.args.t_timezone.now
+    c.args.t_stations.now
+    c.args.t_footnote.now c.args.t_timetbls.now c.args.t_changes.now c.args.t_xfootnote.now c.args.t_xchanges.now in
+    let rooms : PerFile ℕ = per_file (λ f. length (of lent f)) in
+    let Fits : Type 0 = Fit files rooms in
+    let fit : fine c.sizes-v0.result ≡ true → Fits = λ g. roomy files rooms _ c.sizes-v0.ensures g in
     λ g.
-    lasts_ready (files c.before.before.before.before.before.before.before.before.before.before.before.before.before.before.before.before.before.before.before.before.before.before.before.before.before.before.before.before.before.before.before.before.before.before.before.before.before.before.before.before.before.before.before.before.before.before.before.before.before.before.before.before.before.before.before.before.before.before.before.before.before.before.before.before.before.before.before.before.before.before.before.before.before.before.before.before.before.before.before.before.before.before.before.before.before) (lent c.before.before.before.before.before.before.before.before.before.before.before.before.before.before.before.before.before.before.before.before.before.before.before.before.before.before.before.before.before.before.before.before.before.before.before.before.before.before.before.before.before.before.before.before.before.before.before.before.before.before.before.before.before.before.before.before.before.before.before.before.before.before.before.before.before.before.before.before.before.before.before.before.before.before.before.before.before.before.before.before.before.before.before.before.before) (eleven _ _ _ _ _ _ _ _ _ _ _)
+    lasts_ready files lent (eleven _ _ _ _ _ _ _ _ _ _ _)
     (fit (firsts_back c.read_first_files-first.ensures g))
     c.clear_all.ensures
 
@@ -92,7 +88,13 @@ shape_of-t_xchanges c =
 
 pub returns : goal.returns
 returns c =
-    loaded (files c.before.before.before.before.before.before.before.before.before.before.before.before.before.before.before.before.before.before.before.before.before.before.before.before.before.before.before.before.before.before.before.before.before.before.before.before.before.before.before.before.before.before.before.before.before.before.before.before.before.before.before.before.before.before.before.before.before.before.before.before.before.before.before.before.before.before.before.before.before.before.before.before.before.before.before.before.before.before.before.before.before.before.before.before.before.before.before.before.before.before.before.before.before.before.before.before.before.before.before.before.before.before.before.before.before.before.before.before.before.before.before.before.before.before.before.before.before.before.before.before.before.before.before.before.before.before.before.before.before) (lent c.before.before.before.before.before.before.before.before.before.before.before.before.before.before.before.before.before.before.before.before.before.before.before.before.before.before.before.before.before.before.before.before.before.before.before.before.before.before.before.before.before.before.before.before.before.before.before.before.before.before.before.before.before.before.before.before.before.before.before.before.before.before.before.before.before.before.before.before.before.before.before.before.before.before.before.before.before.before.before.before.before.before.before.before.before.before.before.before.before.before.before.before.before.before.before.before.before.before.before.before.before.before.before.before.before.before.before.before.before.before.before.before.before.before.before.before.before.before.before.before.before.before.before.before.before.before.before.before.before) (eleven _ _ _ _ _ _ _ _ _ _ _) (eleven _ _ _ _ _ _ _ _ _ _ _) (eleven _ _ _ _ _ _ _ _ _ _ _)
+    let files : PerFile (List ℕ) = eleven c.args.delivery.now c.args.company.now c.args.country.now c.args.trnsmode.now c.args.timezone.now
+    c.args.stations.now
+    c.args.footnote.now c.args.timetbls.now c.args.changes.now c.args.xfootnote.now c.args.xchanges.now in
+    let lent : PerFile (List ℕ) = eleven c.args.t_delivery.now c.args.t_company.now c.args.t_country.now c.args.t_trnsmode.now c.args.t_timezone.now
+    c.args.t_stations.now
+    c.args.t_footnote.now c.args.t_timetbls.now c.args.t_changes.now c.args.t_xfootnote.now c.args.t_xchanges.now in
+    loaded files lent (eleven _ _ _ _ _ _ _ _ _ _ _) (eleven _ _ _ _ _ _ _ _ _ _ _) (eleven _ _ _ _ _ _ _ _ _ _ _)
     _ _ _ _ _
     (record {
       sizes = c.sizes-v0.ensures;

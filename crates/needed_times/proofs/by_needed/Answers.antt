@@ -13,7 +13,7 @@ pub returns-in-Possibility : goal.returns-in-Possibility
 returns-in-Possibility c R e f g h =
     let a = c.args in
     c.core.ensures
-    ∙ rw (to_z-of_z {w = w32} c.fits.gap)
+    ∙ rw (to_z-of_z {w = w32} c.ranges.gap)
     (pair_alone a.gap (change_flag (station_row R a.a.station))
     (best_for R (rows_found a.timetbls.now a.a) (rows_found a.timetbls.now a.b) a.a.station a.from a.to)
     (change_time (station_row R a.a.station)) (pair_at R a.a.station a.from.service a.to.service) c.in-Possibility.p
@@ -23,7 +23,7 @@ pub returns-in-NoPair : goal.returns-in-NoPair
 returns-in-NoPair c R e f g h =
     let a = c.args in
     c.without_pair.ensures R e g h
-    ∙ rw (to_z-of_z {w = w32} c.fits.gap)
+    ∙ rw (to_z-of_z {w = w32} c.ranges.gap)
     (no_pair a.gap (change_flag (station_row R a.a.station))
     (best_for R (rows_found a.timetbls.now a.a) (rows_found a.timetbls.now a.b) a.a.station a.from a.to)
     (change_time (station_row R a.a.station)) (pair_at R a.a.station a.from.service a.to.service)

@@ -15,24 +15,12 @@ use Rattle.heads.proofs.FileLaws.{some_lines, absent, passed, first_refused, row
 use Rattle.file_rows.proofs.WholeLaws.{plain_begun, begun_first}
 use Rattle.row_files.proofs.read_row_file.Goals as goal
 
--- the file, and what agrees with the tables that its rows name
-abbrev file : goal.Start → File
-file s = Rows s.args.file
-
-abbrev agrees : goal.Start → Context → Type 0
-agrees s k = StationKeys k s.args.countries.now s.args.zones.now
-
--- where the first line was split from the others
-abbrev from : goal.After-read_rows → ℕ
-from c = c.before.before.before.from.given.0.0
-
-abbrev others : goal.After-read_rows → List Line
-others c = lines (drop (from c) (begin c).args.text.now)
-
 pub returns-then-text-eq0 : goal.returns-then-text-eq0
 returns-then-text-eq0 c =
+    let file : File = Rows c.args.file in
+    let agrees : Context → Type 0 = λ k. StationKeys k c.args.countries.now c.args.zones.now in
     rw c.in-Fine.is
-    (absent (file c.before.before.before.before.before.before.before.before) c.args.form (agrees c.before.before.before.before.before.before.before.before) c.args.header.now c.args.text.now c.args.t.now c.if-text-eq0.true
+    (absent file c.args.form agrees c.args.header.now c.args.text.now c.args.t.now c.if-text-eq0.true
     (c.requires (ap fine c.in-Fine.is)))
 
 pub begin_file-requires : goal.begin_file-requires
@@ -42,14 +30,18 @@ begin_file-requires c =
 
 pub returns-in-Fault : goal.returns-in-Fault
 returns-in-Fault c =
+    let file : File = Rows c.args.file in
+    let agrees : Context → Type 0 = λ k. StationKeys k c.args.countries.now c.args.zones.now in
     rw c.in-Fault.is
-    (passed (file c) c.args.form (agrees c) c.args.header.now c.args.text.now c.args.t.now _ _ _ refl)
+    (passed file c.args.form agrees c.args.header.now c.args.text.now c.args.t.now _ _ _ refl)
 
 pub returns-in-Broken : goal.returns-in-Broken
 returns-in-Broken c =
+    let file : File = Rows c.args.file in
+    let agrees : Context → Type 0 = λ k. StationKeys k c.args.countries.now c.args.zones.now in
     let more : 0 < length c.args.text.now = omega (arith, c.if-text-eq0.false) in
     rw c.in-Fine.is
-    (first_refused (file c.before.before.before.before.before.before.before.before.before.before.before.before.before.before.before) c.args.form (agrees c.before.before.before.before.before.before.before.before.before.before.before.before.before.before.before) c.args.header.now c.args.text.now c.args.t.now
+    (first_refused file c.args.form agrees c.args.header.now c.args.text.now c.args.t.now
     (drop 1 (lines c.args.text.now)) (some_lines c.args.text.now more) _ c.begin_file.ensures.test _ _
     (ap begin_test c.in-Broken.is) c.begin_file.ensures.kept)
 
@@ -59,50 +51,48 @@ read_rows-requires c =
 
 pub set_rises-requires : goal.set_rises-requires
 set_rises-requires c =
+    let file : File = Rows c.args.file in
+    let agrees : Context → Type 0 = λ k. StationKeys k c.args.countries.now c.args.zones.now in
+    let from : ℕ = c.in-Rest.from in
+    let others : List Line = lines (drop from c.args.text.now) in
     let b = c.begin_file.ensures in
     let split = b.rest _ c.in-Rest.is in
-    flag_fits (file c.before.before.before.before.before.before.before.before.before.before.before.before.before.before.before.before.before.before.before.before.before.before.before) c.args.form (agrees c.before.before.before.before.before.before.before.before.before.before.before.before.before.before.before.before.before.before.before.before.before.before.before) c.args.header.now c.args.text.now c.args.t.now (others c) split.all _ b.test
+    flag_fits file c.args.form agrees c.args.header.now c.args.text.now c.args.t.now others split.all _ b.test
     (ap begin_test c.in-Rest.is) _ _ _ _ _ c.read_rows.ensures b.kept _ _ c.in-AllRead.is
     refl
     (begun_first c.args.file _ _ _ split.begun) refl
 
 pub returns-in-Stopped : goal.returns-in-Stopped
 returns-in-Stopped c =
+    let file : File = Rows c.args.file in
+    let agrees : Context → Type 0 = λ k. StationKeys k c.args.countries.now c.args.zones.now in
+    let from : ℕ = c.in-Rest.from in
+    let others : List Line = lines (drop from c.args.text.now) in
     let b = c.begin_file.ensures in
     let split = b.rest _ c.in-Rest.is in
     rw c.in-Fine.is
-    (rows_refused (file c.before.before.before.before.before.before.before.before.before.before.before.before.before.before.before.before.before.before.before.before.before.before) c.args.form (agrees c.before.before.before.before.before.before.before.before.before.before.before.before.before.before.before.before.before.before.before.before.before.before) c.args.header.now c.args.text.now c.args.t.now (others c) split.all _ b.test
+    (rows_refused file c.args.form agrees c.args.header.now c.args.text.now c.args.t.now others split.all _ b.test
     (ap begin_test c.in-Rest.is) _ _ _ _ _ c.read_rows.ensures b.kept _ _ c.in-Stopped.is)
 
 pub returns-in-AllRead : goal.returns-in-AllRead
 returns-in-AllRead c =
+    let file : File = Rows c.args.file in
+    let agrees : Context → Type 0 = λ k. StationKeys k c.args.countries.now c.args.zones.now in
+    let from : ℕ = c.in-Rest.from in
+    let others : List Line = lines (drop from c.args.text.now) in
     let b = c.begin_file.ensures in
     let split = b.rest _ c.in-Rest.is in
     rw c.in-Fine.is
-    (rows_accepted (file c.before.before.before.before.before.before.before.before.before.before.before.before.before.before.before.before.before.before.before.before.before.before.before.before.before.before) c.args.form (agrees c.before.before.before.before.before.before.before.before.before.before.before.before.before.before.before.before.before.before.before.before.before.before.before.before.before.before) c.args.header.now c.args.text.now c.args.t.now (others c.before.before.before.before.before.before.before.before.before) split.all _ b.test
+    (rows_accepted file c.args.form agrees c.args.header.now c.args.text.now c.args.t.now others split.all _ b.test
     (ap begin_test c.in-Rest.is) _ _ _ _ _ c.read_rows.ensures b.kept _ _
     c.in-AllRead.is c.set_rises.ensures
     (begun_first c.args.file _ _ _ split.begun) refl)
 
 pub shape_of-t-in-Broken : goal.shape_of-t-in-Broken
-shape_of-t-in-Broken c = ((let more : 0 < length c.args.text.now = omega (arith, c.if-text-eq0.false) in
-    rw c.in-Fine.is
-    (first_refused (file c.before.before.before.before.before.before.before.before.before.before.before.before.before.before.before) c.args.form (agrees c.before.before.before.before.before.before.before.before.before.before.before.before.before.before.before) c.args.header.now c.args.text.now c.args.t.now
-    (drop 1 (lines c.args.text.now)) (some_lines c.args.text.now more) _ c.begin_file.ensures.test _ _
-    (ap begin_test c.in-Broken.is) c.begin_file.ensures.kept))).kept
+shape_of-t-in-Broken c = (returns-in-Broken c).kept
 
 pub shape_of-t-in-Stopped : goal.shape_of-t-in-Stopped
-shape_of-t-in-Stopped c = ((let b = c.begin_file.ensures in
-    let split = b.rest _ c.in-Rest.is in
-    rw c.in-Fine.is
-    (rows_refused (file c.before.before.before.before.before.before.before.before.before.before.before.before.before.before.before.before.before.before.before.before.before.before) c.args.form (agrees c.before.before.before.before.before.before.before.before.before.before.before.before.before.before.before.before.before.before.before.before.before.before) c.args.header.now c.args.text.now c.args.t.now (others c) split.all _ b.test
-    (ap begin_test c.in-Rest.is) _ _ _ _ _ c.read_rows.ensures b.kept _ _ c.in-Stopped.is))).kept
+shape_of-t-in-Stopped c = (returns-in-Stopped c).kept
 
 pub shape_of-t-in-AllRead : goal.shape_of-t-in-AllRead
-shape_of-t-in-AllRead c = ((let b = c.begin_file.ensures in
-    let split = b.rest _ c.in-Rest.is in
-    rw c.in-Fine.is
-    (rows_accepted (file c.before.before.before.before.before.before.before.before.before.before.before.before.before.before.before.before.before.before.before.before.before.before.before.before.before.before) c.args.form (agrees c.before.before.before.before.before.before.before.before.before.before.before.before.before.before.before.before.before.before.before.before.before.before.before.before.before.before) c.args.header.now c.args.text.now c.args.t.now (others c.before.before.before.before.before.before.before.before.before) split.all _ b.test
-    (ap begin_test c.in-Rest.is) _ _ _ _ _ c.read_rows.ensures b.kept _ _
-    c.in-AllRead.is c.set_rises.ensures
-    (begun_first c.args.file _ _ _ split.begun) refl))).kept
+shape_of-t-in-AllRead c = (returns-in-AllRead c).kept

@@ -27,12 +27,7 @@ bounds-places-at c =
     omega (arith, (c.probe.ensures.free _ c.in-Free.is).high, place_inside a.key (length a.places.now) h)
 
 pub offset_bounds-places-at : goal.offset_bounds-places-at
-offset_bounds-places-at c = omega (
-  arith,
-  (let a = c.args in
-      let h : probes < length a.places.now = c.if-places-le-PROBES.false in
-      omega (arith, (c.probe.ensures.free _ c.in-Free.is).high, place_inside a.key (length a.places.now) h)),
-)
+offset_bounds-places-at c = omega (arith, bounds-places-at c)
 
 pub returns-in-Free : goal.returns-in-Free
 returns-in-Free c =

@@ -15,18 +15,15 @@ use Rattle.block_walks.specs.Blocks.{as_read}
 use Rattle.timetbls.proofs.CountLaws.{none_counted, still_counted}
 use Rattle.timetbls.proofs.read_timetbls.Goals as goal
 
--- the contexts that agree with the lent tables
-abbrev Agreed : goal.Start → Context → Type 0
-Agreed s k = let a = s.args in BlockKeys k a.companies.now a.modes.now a.stations.now a.footnotes.now
-
 pub returns-then-text-eq0 : goal.returns-then-text-eq0
 returns-then-text-eq0 c =
+    let Agreed : Context → Type 0 = λ k. let a = c.args in BlockKeys k a.companies.now a.modes.now a.stations.now a.footnotes.now in
     let a = c.args in
     let ready = c.requires (ap fine c.in-Fine.is) in
     record {
       file =
           rw c.in-Fine.is
-          (absent Timetbls a.form (Agreed c.before.before.before.before.before.before.before.before.before.before) a.header.now a.text.now a.t.now c.if-text-eq0.true ready);
+          (absent Timetbls a.form Agreed a.header.now a.text.now a.t.now c.if-text-eq0.true ready);
       counted = λ z. none_counted a.t.now ready.cleared;
     }
 
@@ -42,30 +39,32 @@ read_blocks-requires c =
 
 pub set_rises-requires : goal.set_rises-requires
 set_rises-requires c =
+    let Agreed : Context → Type 0 = λ k. let a = c.args in BlockKeys k a.companies.now a.modes.now a.stations.now a.footnotes.now in
     let a = c.args in
-    let from = c.from-1.given in
-    let split = c.begin_file.ensures.rest _ from.1 in
-    let ls = lines (drop from.0.0 a.text.now) in
-    flag_fits Timetbls a.form (Agreed c.before.before.before.before.before.before.before.before.before.before.before.before.before.before.before.before.before.before.before.before.before.before.before.before.before) a.header.now a.text.now a.t.now ls split.all _ c.begin_file.ensures.test
-    (ap begin_test from.1) _ _ _ _ _ (c.read_blocks.ensures.done _ split.begun) c.begin_file.ensures.kept
+    let split = c.begin_file.ensures.rest _ c.in-Rest.is in
+    let ls = lines (drop c.in-Rest.from a.text.now) in
+    flag_fits Timetbls a.form Agreed a.header.now a.text.now a.t.now ls split.all _ c.begin_file.ensures.test
+    (ap begin_test c.in-Rest.is) _ _ _ _ _ (c.read_blocks.ensures.done _ split.begun) c.begin_file.ensures.kept
     _ _ (ap as_read c.in-All.is) refl refl refl
 
 pub returns-in-Fault : goal.returns-in-Fault
 returns-in-Fault c =
+    let Agreed : Context → Type 0 = λ k. let a = c.args in BlockKeys k a.companies.now a.modes.now a.stations.now a.footnotes.now in
     let a = c.args in
     record {
-      file = rw c.in-Fault.is (passed Timetbls a.form (Agreed c) a.header.now a.text.now a.t.now _ _ _ refl);
+      file = rw c.in-Fault.is (passed Timetbls a.form Agreed a.header.now a.text.now a.t.now _ _ _ refl);
       counted = λ z. absurd (false≢true z);
     }
 
 pub returns-in-Broken : goal.returns-in-Broken
 returns-in-Broken c =
+    let Agreed : Context → Type 0 = λ k. let a = c.args in BlockKeys k a.companies.now a.modes.now a.stations.now a.footnotes.now in
     let a = c.args in
     let more : 0 < length a.text.now = omega (arith, c.if-text-eq0.false) in
     record {
       file =
           rw c.in-Fine.is
-          (first_refused Timetbls a.form (Agreed c.before.before.before.before.before.before.before.before.before.before.before.before.before.before.before.before.before) a.header.now a.text.now a.t.now (drop 1 (lines a.text.now))
+          (first_refused Timetbls a.form Agreed a.header.now a.text.now a.t.now (drop 1 (lines a.text.now))
           (some_lines a.text.now more) _ c.begin_file.ensures.test _ _ (ap begin_test c.in-Broken.is)
           c.begin_file.ensures.kept);
       counted = λ z. absurd (false≢true z);
@@ -73,74 +72,40 @@ returns-in-Broken c =
 
 pub returns-in-Refused : goal.returns-in-Refused
 returns-in-Refused c =
+    let Agreed : Context → Type 0 = λ k. let a = c.args in BlockKeys k a.companies.now a.modes.now a.stations.now a.footnotes.now in
     let a = c.args in
-    let from = c.from-1.given in
-    let split = c.begin_file.ensures.rest _ from.1 in
-    let ls = lines (drop from.0.0 a.text.now) in
+    let split = c.begin_file.ensures.rest _ c.in-Rest.is in
+    let ls = lines (drop c.in-Rest.from a.text.now) in
     record {
       file =
           rw c.in-Fine.is
-          (rows_refused Timetbls a.form (Agreed c.before.before.before.before.before.before.before.before.before.before.before.before.before.before.before.before.before.before.before.before.before.before.before.before) a.header.now a.text.now a.t.now ls split.all _ c.begin_file.ensures.test
-          (ap begin_test from.1) _ _ _ _ _ (c.read_blocks.ensures.done _ split.begun) c.begin_file.ensures.kept
+          (rows_refused Timetbls a.form Agreed a.header.now a.text.now a.t.now ls split.all _ c.begin_file.ensures.test
+          (ap begin_test c.in-Rest.is) _ _ _ _ _ (c.read_blocks.ensures.done _ split.begun) c.begin_file.ensures.kept
           _ _ (ap as_read c.in-Refused.is));
       counted = λ z. absurd (false≢true z);
     }
 
 pub returns-in-All : goal.returns-in-All
 returns-in-All c =
+    let Agreed : Context → Type 0 = λ k. let a = c.args in BlockKeys k a.companies.now a.modes.now a.stations.now a.footnotes.now in
     let a = c.args in
-    let from = c.from-1.given in
-    let split = c.begin_file.ensures.rest _ from.1 in
-    let ls = lines (drop from.0.0 a.text.now) in
-    let rises = c.rises-1.given in
+    let split = c.begin_file.ensures.rest _ c.in-Rest.is in
+    let ls = lines (drop c.in-Rest.from a.text.now) in
     let flagged = c.set_rises.ensures in
     record {
       file =
           rw c.in-Fine.is
-          (rows_accepted Timetbls a.form (Agreed c.before.before.before.before.before.before.before.before.before.before.before.before.before.before.before.before.before.before.before.before.before.before.before.before.before.before.before.before) a.header.now a.text.now a.t.now ls split.all _ c.begin_file.ensures.test
-          (ap begin_test from.1) _ _ _ _ _ (c.read_blocks.ensures.done _ split.begun) c.begin_file.ensures.kept
-          _ _ (ap as_read rises.1) flagged refl refl);
-      counted = λ z. still_counted (flag rises.0.0) _ _ _ _ (c.read_blocks.ensures.counted _ _ _ rises.1) flagged;
+          (rows_accepted Timetbls a.form Agreed a.header.now a.text.now a.t.now ls split.all _ c.begin_file.ensures.test
+          (ap begin_test c.in-Rest.is) _ _ _ _ _ (c.read_blocks.ensures.done _ split.begun) c.begin_file.ensures.kept
+          _ _ (ap as_read c.in-All.is) flagged refl refl);
+      counted = λ z. still_counted (flag c.in-All.rises) _ _ _ _ (c.read_blocks.ensures.counted _ _ _ c.in-All.is) flagged;
     }
 
 pub shape_of-t-in-Broken : goal.shape_of-t-in-Broken
-shape_of-t-in-Broken c = ((let a = c.args in
-    let more : 0 < length a.text.now = omega (arith, c.if-text-eq0.false) in
-    record {
-      file =
-          rw c.in-Fine.is
-          (first_refused Timetbls a.form (Agreed c.before.before.before.before.before.before.before.before.before.before.before.before.before.before.before.before.before) a.header.now a.text.now a.t.now (drop 1 (lines a.text.now))
-          (some_lines a.text.now more) _ c.begin_file.ensures.test _ _ (ap begin_test c.in-Broken.is)
-          c.begin_file.ensures.kept);
-      counted = λ z. absurd (false≢true z);
-    })).file.auto
+shape_of-t-in-Broken c = (returns-in-Broken c).file.auto
 
 pub shape_of-t-in-Refused : goal.shape_of-t-in-Refused
-shape_of-t-in-Refused c = ((let a = c.args in
-    let from = c.from-1.given in
-    let split = c.begin_file.ensures.rest _ from.1 in
-    let ls = lines (drop from.0.0 a.text.now) in
-    record {
-      file =
-          rw c.in-Fine.is
-          (rows_refused Timetbls a.form (Agreed c.before.before.before.before.before.before.before.before.before.before.before.before.before.before.before.before.before.before.before.before.before.before.before.before) a.header.now a.text.now a.t.now ls split.all _ c.begin_file.ensures.test
-          (ap begin_test from.1) _ _ _ _ _ (c.read_blocks.ensures.done _ split.begun) c.begin_file.ensures.kept
-          _ _ (ap as_read c.in-Refused.is));
-      counted = λ z. absurd (false≢true z);
-    })).file.auto
+shape_of-t-in-Refused c = (returns-in-Refused c).file.auto
 
 pub shape_of-t-in-All : goal.shape_of-t-in-All
-shape_of-t-in-All c = ((let a = c.args in
-    let from = c.from-1.given in
-    let split = c.begin_file.ensures.rest _ from.1 in
-    let ls = lines (drop from.0.0 a.text.now) in
-    let rises = c.rises-1.given in
-    let flagged = c.set_rises.ensures in
-    record {
-      file =
-          rw c.in-Fine.is
-          (rows_accepted Timetbls a.form (Agreed c.before.before.before.before.before.before.before.before.before.before.before.before.before.before.before.before.before.before.before.before.before.before.before.before.before.before.before.before) a.header.now a.text.now a.t.now ls split.all _ c.begin_file.ensures.test
-          (ap begin_test from.1) _ _ _ _ _ (c.read_blocks.ensures.done _ split.begun) c.begin_file.ensures.kept
-          _ _ (ap as_read rises.1) flagged refl refl);
-      counted = λ z. still_counted (flag rises.0.0) _ _ _ _ (c.read_blocks.ensures.counted _ _ _ rises.1) flagged;
-    })).file.auto
+shape_of-t-in-All c = (returns-in-All c).file.auto
