@@ -1,5 +1,7 @@
 // An amendment: a block in the place of a service's lines in TIMETBLS, over eleven lent tables of any length and content. Nothing is written before
 // all tests have passed.
+#![tactic(auto)]
+
 ghost use Rattle.iff.specs.Files.{eleven};
 ghost use Rattle.amend.specs.Amended.{SoundThere, AmendedThere, Amended};
 

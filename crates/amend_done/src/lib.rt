@@ -1,4 +1,6 @@
 // What was judged of an amendment is done and answered: a block gives way to another, or TIMETBLS keeps every word.
+#![tactic(auto)]
+
 ghost use Rattle.amend_done.specs.Done.{Doable, Done};
 
 use amend_tests::Judged;

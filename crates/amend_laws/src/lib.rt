@@ -1,1 +1,2 @@
 // Laws over the definitions of document 01: amendments. See proofs/.
+#![tactic(auto)]

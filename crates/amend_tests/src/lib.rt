@@ -1,4 +1,6 @@
 // What becomes of an amendment of sound tables: the tests after 16 in the paper's order, which write nothing.
+#![tactic(auto)]
+
 ghost use Rattle.std.specs.Prelude.{◌≤◌, length};
 ghost use Rattle.iff.specs.Tables.{rows_in};
 ghost use Rattle.iff.specs.declared.File.TheVariants.{Timetbls};

@@ -1,4 +1,6 @@
 // The verdict of a load or an amendment as its answer.
+#![tactic(auto)]
+
 ghost use Rattle.std.specs.Prelude.{◌≡◌};
 ghost use Rattle.iff.specs.Refusals.{answer as answerTo};
 

@@ -1,5 +1,7 @@
 // The places of the services that a sheet names, found before its first question: a hint where to look. Where some had none, one pass over TIMETBLS
 // finds all of them, and no question goes through it.
+#![tactic(auto)]
+
 ghost use Rattle.std.specs.Prelude.{◌≡◌, ◌+◌, ◌*◌, ◌≤◌, length};
 ghost use Rattle.iff_desk.specs.Sheet.{question_width};
 

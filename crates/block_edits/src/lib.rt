@@ -1,4 +1,6 @@
 // A service's rows in TIMETBLS give way to those of a block that was found whole. The rows behind them move within the table.
+#![tactic(auto)]
+
 ghost use Rattle.std.specs.Prelude.{◌≡◌, ◌++◌, length};
 ghost use Rattle.iff.specs.Tables.{row_width, fill};
 ghost use Rattle.iff.specs.declared.File.TheVariants.{Timetbls};

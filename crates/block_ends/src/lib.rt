@@ -1,6 +1,8 @@
 // Where a TIMETBLS block ends: at the next line beginning `#`, or at the text's end. A right record has its length by its letter, so that one
 // hops from line to line and looks at no byte but a line's first and its end; as many lines as hops tell that each hop was a line. Where that does
 // not fit, the lines are looked at one by one.
+#![tactic(auto)]
+
 ghost use Rattle.std.specs.Prelude.{◌≡◌, ◌+◌, ◌≤◌, ◌<◌, length, drop};
 ghost use Rattle.iff.specs.Lines.{lines};
 ghost use Rattle.block_ends.specs.Blocks.{Clean, NextBlock};

@@ -1,4 +1,6 @@
 // Test 10 of document 01, "Legs", on the text of a block: the rules over rows (`legs`), asked of each line's record.
+#![tactic(auto)]
+
 ghost use Rattle.std.specs.Prelude.{◌≡◌, true, ◌&&◌, ◌-◌, length};
 ghost use Rattle.iff.specs.Lists.{all};
 ghost use Rattle.iff.specs.Lines.{lines};

@@ -1,4 +1,6 @@
 // One line of a TIMETBLS block: its tests in their order, and where it leads.
+#![tactic(auto)]
+
 ghost use Rattle.std.specs.Prelude.{◌≡◌, true, cond, ◌+◌, ◌≤◌, eqb, length, get_or};
 ghost use Rattle.iff.specs.Bytes.{hash};
 ghost use Rattle.iff_rules.specs.Meaning.{most_stops};

@@ -1,4 +1,6 @@
 // One block of TIMETBLS after others: tested with what is known of their services, and its rows put behind theirs.
+#![tactic(auto)]
+
 ghost use Rattle.std.specs.Prelude.{◌+◌, ◌*◌, ◌≤◌, ◌<◌, length};
 ghost use Rattle.iff.specs.declared.File.TheVariants.{Timetbls};
 ghost use Rattle.iff.specs.Tables.{row_width};

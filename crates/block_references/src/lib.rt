@@ -1,4 +1,6 @@
 // What a line of a TIMETBLS block names in other files is there: document 01's References, for blocks. Rows in use are counted once (`references`).
+#![tactic(auto)]
+
 ghost use Rattle.std.specs.Prelude.{◌≡◌, ◌≤◌, length};
 ghost use Rattle.iff_rules.specs.Rows.{Context};
 ghost use Rattle.iff_rules.specs.References.{met_in_block};

@@ -1,4 +1,6 @@
 // All blocks of TIMETBLS, with the first service that came twice: the first fault with its place, or how many rows and services there are.
+#![tactic(auto)]
+
 ghost use Rattle.std.specs.Prelude.{◌≡◌, ◌≤◌, length};
 ghost use Rattle.iff.specs.declared.File.TheVariants.{Timetbls};
 ghost use Rattle.iff.specs.Tables.{row_width};

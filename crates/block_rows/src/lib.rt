@@ -1,5 +1,7 @@
 // The rows of one TIMETBLS block that was found whole, written into a table: each line's record, with its number in the block, and the counts of
 // lines and stops in the `#` row. A load and an amendment share this.
+#![tactic(auto)]
+
 ghost use Rattle.std.specs.Prelude.{◌≡◌, true, ◌++◌, ◌+◌, ◌*◌, ◌≤◌, length, take, drop};
 ghost use Rattle.iff.specs.Tables.{row_width, joined, put_row};
 ghost use Rattle.iff.specs.declared.File.TheVariants.{Timetbls};

@@ -1,4 +1,6 @@
 // The service that a TIMETBLS block names, read from its first line.
+#![tactic(auto)]
+
 ghost use Rattle.std.specs.Prelude.{◌≡◌};
 ghost use Rattle.iff_rules.specs.Rows.{as_block};
 ghost use Rattle.iff.specs.declared.Form.{Form};

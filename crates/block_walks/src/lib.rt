@@ -1,5 +1,7 @@
 // The blocks of TIMETBLS one after the other: the first fault with its place, or how many rows and services there are; and whether each was told to name a
 // new service.
+#![tactic(auto)]
+
 ghost use Rattle.std.specs.Prelude.{◌≡◌, ◌&&◌};
 ghost use Rattle.block_walks.specs.Blocks.{BlocksReady, BlocksWalked};
 

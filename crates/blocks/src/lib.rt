@@ -1,5 +1,7 @@
 // One TIMETBLS block, given as text, checked and not kept: its first fault with the line, or its numbers of lines and of stops.
 // A load and an amendment share this check; what they write comes after it.
+#![tactic(auto)]
+
 ghost use Rattle.std.specs.Prelude.{◌≡◌, ◌≤◌, ◌<◌, length};
 ghost use Rattle.iff_rules.specs.Meaning.{most_stops};
 ghost use Rattle.block_lines.specs.Lines.{keys_from};

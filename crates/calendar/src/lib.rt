@@ -1,4 +1,6 @@
 // The days of document 01, for every number that a field can hold and every other.
+#![tactic(auto)]
+
 ghost use Rattle.std.specs.Prelude.{◌≡◌, ◌<◌};
 ghost use Rattle.iff.specs.Days.{leap_year, days_before, days_in, years_before, day_of, is_day, period, span, in_period, day_in};
 

@@ -1,4 +1,6 @@
 // The answer to a change as the paper's numbers and values, for callers to whom an enum cannot be handed.
+#![tactic(auto)]
+
 ghost use Rattle.std.specs.Prelude.{◌≡◌};
 ghost use Rattle.iff_desk.specs.Answers.{whyEarly, whyBarred, barSource};
 ghost use Rattle.change_numbers.specs.Numbers.{why_of, source_of, change_words, change_gap};

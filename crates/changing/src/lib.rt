@@ -2,6 +2,8 @@
 // answers refusals, and a core, which answers whether the change is a No, a Yes or Unsettled. A table comes with the number of its rows in use, and
 // with places, a hint where keys stand, on which nothing rests; CHANGES and XCHANGES with an exact index of the stations that open their groups. What
 // the answer does not need is not looked for.
+#![tactic(auto)]
+
 ghost use Rattle.std.specs.Prelude.{◌≡◌, List, ◌&&◌, ◌<◌, leb, length};
 ghost use Rattle.iff.specs.Days.{longest};
 ghost use Rattle.iff.specs.Files.{PerFile};

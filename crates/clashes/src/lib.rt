@@ -1,4 +1,6 @@
 // What no two rows of one group may share: periods of a zone that overlap, a pair of services, four keys and a footnote.
+#![tactic(auto)]
+
 ghost use Rattle.std.specs.Prelude.{◌≡◌, not, ◌+◌, ◌*◌, ◌≤◌, length};
 ghost use Rattle.iff.specs.Lists.{any};
 ghost use Rattle.iff.specs.Tables.{row_at, row_width};

@@ -1,4 +1,6 @@
 // Tables cleared: before a load, and again after one that is refused.
+#![tactic(auto)]
+
 ghost use Rattle.clearing.specs.Cleared.{Cleared5, Cleared6, Cleared, Settled};
 
 use iff::Verdict;

@@ -1,4 +1,6 @@
 // The times of document 01, for every number that a field can hold and every other: times, minutes, the zone rule, and the gap.
+#![tactic(auto)]
+
 ghost use Rattle.std.specs.Prelude.{◌≡◌, ◌<◌, pos};
 ghost use Rattle.std.specs.Int.Signed.{mag};
 ghost use Rattle.iff.specs.Days.{longest};

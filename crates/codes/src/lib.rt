@@ -1,4 +1,6 @@
 // A code's word: its bytes are allowed and not all blank.
+#![tactic(auto)]
+
 ghost use Rattle.std.specs.Prelude.{◌≡◌, ◌&&◌, eqb};
 ghost use Rattle.iff.specs.Bytes.{blank as blankByte};
 ghost use Rattle.iff.specs.Values.{code_right};

@@ -1,4 +1,6 @@
 // A vector's words: no mark stands beyond the days.
+#![tactic(auto)]
+
 ghost use Rattle.std.specs.Prelude.{◌≡◌, ◌-◌, ◌<◌, length, drop};
 ghost use Rattle.iff.specs.Values.{vector_right, vector_width};
 ghost use Rattle.day_marks.specs.Marks.{marks_fit};

@@ -1,4 +1,6 @@
 // A stop's arrival and departure on a service day, each by the period that holds its own day, in the zone of the stop's station.
+#![tactic(auto)]
+
 ghost use Rattle.std.specs.Prelude.{◌≡◌, List, ◌+◌, ◌<◌};
 ghost use Rattle.iff.specs.Files.{PerFile};
 ghost use Rattle.iff.specs.Tables.{Row, row_width, rows_in};

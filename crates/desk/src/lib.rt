@@ -1,5 +1,7 @@
 // The desk's questions over eleven lent tables of any length and content, which nothing is written to. "Calls that are lent a loaded store test 16 first":
 // the index of keys that the test fills is where the questions look.
+#![tactic(auto)]
+
 ghost use Rattle.std.specs.Prelude.{◌≡◌, List};
 ghost use Rattle.iff.specs.Files.{PerFile, eleven};
 ghost use Rattle.iff.specs.Tables.{Row, rows_in};

@@ -1,4 +1,6 @@
 // Tests 1 and 2 of TIMETBLS with a block in the place of some of its rows: the edited text by its lines' lengths, and its lines by the table's room.
+#![tactic(auto)]
+
 ghost use Rattle.std.specs.Prelude.{◌≡◌, ◌+◌, ◌-◌, ◌*◌, ◌≤◌, leb, length};
 ghost use Rattle.iff.specs.Lists.{total};
 ghost use Rattle.iff.specs.Files.{limit};

@@ -1,4 +1,6 @@
 // Rows of XCHANGES: whether one applies to a change on a day, and the better of one and the best before it.
+#![tactic(auto)]
+
 ghost use Rattle.std.specs.Prelude.{◌≡◌, ◌+◌, ◌*◌, ◌≤◌, length};
 ghost use Rattle.iff.specs.Tables.{row_width, row_at, rows_in};
 ghost use Rattle.iff.specs.declared.GroupFile.TheVariants.{Xfootnote, Xchanges};

@@ -1,5 +1,7 @@
 // What XCHANGES says of a change at a station: the best exception that applies. A table comes with the number of its rows in use; XCHANGES with an
 // exact index of the stations that open its groups, and XFOOTNOTE with places, a hint where keys stand, on which nothing rests.
+#![tactic(auto)]
+
 ghost use Rattle.std.specs.Prelude.{◌≡◌, List, ◌*◌, ◌≤◌, length};
 ghost use Rattle.iff.specs.Files.{PerFile};
 ghost use Rattle.iff.specs.Lists.{kept};

@@ -1,4 +1,6 @@
 // The proved library for programs in other languages. A slice is handed over as a pointer and a length, an array as a pointer.
+#![tactic(auto)]
+
 ghost use Rattle.std.specs.Prelude.{length, ◌≡◌};
 ghost use Rattle.iff.specs.Files.{eleven};
 ghost use Rattle.iff_desk.specs.Sound.{sound as are_sound};

@@ -1,4 +1,6 @@
 // A word fits a field by the field's class and width: a number, a company's number or the wildcard, a code.
+#![tactic(auto)]
+
 ghost use Rattle.std.specs.Prelude.{◌≡◌, ◌||◌, ◌^◌, eqb, ltb};
 ghost use Rattle.iff.specs.Values.{code_of, wildcard};
 ghost use Rattle.field_words.specs.Fits.{Digits, word_fits};

@@ -1,5 +1,7 @@
 // The columns of a line beside a picture, and what its fields hold: blanks, wildcards, companies, the marks of a vector, stops.
 // Every function answers exactly what a definition of the crate `iff` says of the same bytes.
+#![tactic(auto)]
+
 ghost use Rattle.std.specs.Prelude.{◌≡◌, true, ◌≤◌, length, take};
 ghost use Rattle.iff.specs.Lists.{all};
 ghost use Rattle.iff.specs.Bytes.{zero_or_one};

@@ -1,4 +1,6 @@
 // The lines of a file of rows after its first: every line's tests in their order, its row into the table, and the first fault.
+#![tactic(auto)]
+
 ghost use Rattle.std.specs.Prelude.{◌≡◌, List, [], ◌+◌, ◌^◌, ◌<◌, length};
 ghost use Rattle.iff.specs.Lines.{Line, lines};
 ghost use Rattle.iff.specs.Tables.{row_width};

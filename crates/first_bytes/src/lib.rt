@@ -1,4 +1,6 @@
 // Document 01's Order: what a first byte is, in a group and in a block.
+#![tactic(auto)]
+
 ghost use Rattle.std.specs.Prelude.{◌≡◌};
 ghost use Rattle.iff.specs.Lists.{has};
 ghost use Rattle.iff_rules.specs.Order.{group_tag, vector_tag, known_in_group, known_in_block};

@@ -1,4 +1,6 @@
 // The files up to FOOTNOTE, read in order, each into its own cleared table.
+#![tactic(auto)]
+
 ghost use Rattle.std.specs.Prelude.{◌≡◌, true};
 ghost use Rattle.iff.specs.Refusals.{fine};
 ghost use Rattle.first_files.specs.Firsts.{seven, FirstsReady, FirstsRead};

@@ -1,4 +1,6 @@
 // One first line: its tests, and its row.
+#![tactic(auto)]
+
 ghost use Rattle.std.specs.Prelude.{◌≡◌, true};
 ghost use Rattle.iff.specs.Lists.{same};
 ghost use Rattle.iff.specs.declared.File.TheVariants.{Delivery};

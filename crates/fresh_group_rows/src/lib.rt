@@ -1,4 +1,6 @@
 // One row of a file of groups against those of its group before it.
+#![tactic(auto)]
+
 ghost use Rattle.std.specs.Prelude.{◌≡◌, [], ◌+◌, ◌*◌, ◌≤◌, length, drop};
 ghost use Rattle.iff.specs.Tables.{row_width};
 ghost use Rattle.iff.specs.declared.File.TheVariants.{Groups};

@@ -1,4 +1,6 @@
 // Keys that come one after another: services counted, whether keys rise, and whether one is new.
+#![tactic(auto)]
+
 ghost use Rattle.std.specs.Prelude.{◌≡◌, cond, not, eqb, length};
 ghost use Rattle.iff.specs.Bytes.{hash};
 ghost use Rattle.iff.specs.Lists.{has};

@@ -1,4 +1,6 @@
 // Document 01's Unique, of texts, which the tables do not keep: company code and name, country name, mode text.
+#![tactic(auto)]
+
 ghost use Rattle.std.specs.Prelude.{◌≡◌, ◌≤◌};
 ghost use Rattle.iff.specs.Lines.{lines};
 ghost use Rattle.iff.specs.declared.RowFile.TheVariants.{Company};

@@ -1,6 +1,6 @@
 -- The walk through the lines of a file of groups: where it begins, a line further, and its ends. Assumes nothing.
 use Prim.Native.Nat.{ℕ, zero, suc, ◌+◌, ◌-◌, ◌*◌, ◌≤◌, ◌<◌}
-use mathlib.Core.Path.{◌≡◌, refl, ap, sym, ◌∙◌, subst}
+use mathlib.Core.Path.{◌≡◌, refl, ap, sym, ◌∙◌, subst, subst}
 use mathlib.Core.List.{List, [], ◌∷◌, ◌++◌, map, map-append}
 use mathlib.Core.Bool.{Bool, true, false}
 use native.Mathlib.Nat.{suc-mul, mul-le-mul_right}
@@ -61,6 +61,10 @@ many (suc a) w h = rw suc-mul (omega (arith, many a w h))
 -- a fault is no pass
 fault_not : (r : Reason) (p : Place) → Fault r p ≡ Fine → ⊥
 fault_not r p e = let z : ◌≡◌ {A = ℕ} 0 1 = cc in omega arith
+
+-- a context with another form
+abbrev formed : Context → Form → Context
+formed c x = record { form = x; keys = c.keys }
 
 module _ (f : GroupFile) (form : Form) (from : ℕ) (text : List ℕ) where
   -- the lines of groups, and the rows of the first j of them
@@ -218,13 +222,23 @@ module _ (f : GroupFile) (form : Form) (from : ℕ) (text t₀ : List ℕ) (Agre
             Remembered f (keys_of (Groups f) (up_to (j + 1))) (open_from (j + 1 + 1) g'.size) (drop 1 (joins opened line ++ (row_in line ∷ []))) with
 
       -- the walk by what the line's verdict is
+      Turned : Context → Type 0
+      Turned c = groups_verdict c f all
+          ≡ or_else (line_due f (j + 1) g line t c) (flat c f (up_to (j + 1)) (joins opened line ++ (row_in line ∷ [])) (drop (j + 1) all))
+
+      turn_formed : (c : Context) → Agree (formed c form) → Turned (formed c form)
+      unfolding flat Turned
+      turn_formed c a =
+          let n : suc (length (up_to j)) ≡ j + 1 = omega (arith, rows_length) in
+          W.left (formed c form) refl a ∙ rw (head, n, tail, grown, keys_here, open_here)
+
       turn : (c : Context) → c.form ≡ form → Agree c
           → groups_verdict c f all
           ≡ or_else (line_due f (j + 1) g line t c) (flat c f (up_to (j + 1)) (joins opened line ++ (row_in line ∷ [])) (drop (j + 1) all))
-      unfolding flat
+      unfolding Turned
       turn c d a =
-          let n : suc (length (up_to j)) ≡ j + 1 = omega (arith, rows_length) in
-          W.left c d a ∙ rw (head, n, d, tail, grown, keys_here, open_here)
+          let as_formed : c ≡ formed c form = ap (formed c) d in
+          subst Turned (sym as_formed) (turn_formed c (subst Agree as_formed a))
 
       module _ (t' with : List ℕ) (r : LinePut)
           (D : LineDone f form (j + 1) (group_for g line) Agree (line_due f (j + 1) g line t) line t t' marks with r) where

@@ -1,4 +1,6 @@
 // The files of groups: TIMEZONE, FOOTNOTE, CHANGES, XFOOTNOTE, XCHANGES. Their lines in turn, and the first fault with its place.
+#![tactic(auto)]
+
 ghost use Rattle.std.specs.Prelude.{◌≡◌, true, map, ◌+◌, ◌^◌, ◌<◌, drop};
 ghost use Rattle.iff.specs.Lines.{lines};
 ghost use Rattle.iff.specs.Refusals.{fine};

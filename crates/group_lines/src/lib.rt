@@ -1,4 +1,6 @@
 // One line of a group, in TIMEZONE, FOOTNOTE, CHANGES, XFOOTNOTE or XCHANGES: where its tests pass, its row into the table.
+#![tactic(auto)]
+
 ghost use Rattle.std.specs.Prelude.{◌≡◌, length};
 ghost use Rattle.iff.specs.Tables.{row_width};
 ghost use Rattle.iff.specs.declared.File.TheVariants.{Groups};

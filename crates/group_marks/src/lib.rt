@@ -1,4 +1,6 @@
 // Marks of the rows of groups that came so far, by which nearly every new one is told to be new without a look at the others.
+#![tactic(auto)]
+
 ghost use Rattle.std.specs.Prelude.{◌≡◌, true, ◌&&◌, List, ℕ, ◌≤◌, length};
 ghost use Rattle.iff.specs.Tables.{Row, row_width};
 ghost use Rattle.iff.specs.declared.File.TheVariants.{Groups};

@@ -1,4 +1,6 @@
 // Document 01's Order: what may follow what in a group, and where a group may end.
+#![tactic(auto)]
+
 ghost use Rattle.std.specs.Prelude.{◌≡◌};
 ghost use Rattle.iff_rules.specs.Order.{may_follow, in_group, one_vector, is_period, group_moves, may_end, ends_opened};
 

@@ -1,5 +1,7 @@
 // What a row of a file of groups names in other files is there: document 01's References, for CHANGES and XCHANGES. Rows in use are counted once
 // (`references`).
+#![tactic(auto)]
+
 ghost use Rattle.std.specs.Prelude.{◌≡◌, ◌&&◌, ◌||◌, eqb, length};
 ghost use Rattle.iff.specs.Lists.{has};
 ghost use Rattle.iff.specs.Tables.{row_width};

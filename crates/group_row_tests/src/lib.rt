@@ -1,4 +1,6 @@
 // One row of a file of groups by itself, as "Soundness" of document 01 asks for it.
+#![tactic(auto)]
+
 ghost use Rattle.std.specs.Prelude.{◌≡◌, length};
 ghost use Rattle.iff.specs.Tables.{row_width};
 ghost use Rattle.iff.specs.declared.File.TheVariants.{Groups};

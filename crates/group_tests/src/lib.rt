@@ -1,4 +1,6 @@
 // The tests of one line of a group, in TIMEZONE, FOOTNOTE, CHANGES, XFOOTNOTE or XCHANGES, in their order, and its row.
+#![tactic(auto)]
+
 ghost use Rattle.std.specs.Prelude.{◌≡◌, ◌&&◌, length, drop};
 ghost use Rattle.iff.specs.Tables.{row_width};
 ghost use Rattle.iff.specs.declared.File.TheVariants.{Groups};

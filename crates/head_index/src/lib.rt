@@ -1,4 +1,6 @@
 // The stations that have a group in CHANGES or XCHANGES, put into the slots of an index: so that a station that has none is told without a search.
+#![tactic(auto)]
+
 ghost use Rattle.std.specs.Prelude.{◌≡◌, false, length};
 ghost use Rattle.iff.specs.declared.GroupFile.TheVariants.{Changes, Xchanges};
 ghost use Rattle.iff.specs.declared.File.TheVariants.{Groups};

@@ -1,4 +1,6 @@
 // Words of the rows of first lines: whether keys rise, put there, and the form of a delivery's lines, by DELIVERY's.
+#![tactic(auto)]
+
 ghost use Rattle.std.specs.Prelude.{◌≡◌, ◌<◌, length, set};
 ghost use Rattle.iff_rules.specs.Rows.{flag, form_of};
 

@@ -1,4 +1,6 @@
 // The first lines of files, read: what the readers of the lines after them share.
+#![tactic(auto)]
+
 ghost use Rattle.std.specs.Prelude.{◌≡◌, true, ◌<◌, length};
 ghost use Rattle.iff.specs.Refusals.{fine};
 ghost use Rattle.iff.specs.declared.File.TheVariants.{Delivery};

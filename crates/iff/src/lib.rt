@@ -1,4 +1,5 @@
 // Document 01's answers as types. The number and values that the paper gives each case are in specs/Refusals.antt.
+#![tactic(auto)]
 
 pub mod limits;
 pub mod tags;

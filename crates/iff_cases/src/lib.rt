@@ -1,1 +1,2 @@
 // Document 01's definitions run on cases: see specs/.
+#![tactic(auto)]

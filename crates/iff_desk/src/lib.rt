@@ -1,4 +1,6 @@
 // What the desk's questions answer. The number and values that the paper gives each case are in specs/Answers.antt.
+#![tactic(auto)]
+
 use iff::{LocalMinutes, Reason, ReferenceMinutes};
 
 // Running day: does the service run on that leg on that date?

@@ -1,4 +1,6 @@
 // The index of a table's keys: whether they are distinct and whether they rise, told in one pass, in whatever order they come.
+#![tactic(auto)]
+
 ghost use Rattle.std.specs.Prelude.{◌≡◌, false, ◌*◌, ◌≤◌, length};
 ghost use Rattle.iff.specs.Tables.{row_width};
 ghost use Rattle.slots.specs.Slots.{names_at};

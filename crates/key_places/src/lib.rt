@@ -1,4 +1,6 @@
 // A key of a table looked for at its place, in the slots that are tried for it.
+#![tactic(auto)]
+
 ghost use Rattle.std.specs.Prelude.{◌≡◌};
 ghost use Rattle.keys.specs.Lookup.{HitRow};
 

@@ -1,4 +1,6 @@
 // The first row of a lent table with a tag and a key. Every function is stated over the width of a row.
+#![tactic(auto)]
+
 ghost use Rattle.std.specs.Prelude.{◌≡◌, ◌-◌, ◌*◌, ◌<◌, ◌≤◌, length, drop};
 ghost use Rattle.iff.specs.Lists.{any};
 ghost use Rattle.iff.specs.Tables.{rows_up_to, rows_of_width, keyed, first_row};

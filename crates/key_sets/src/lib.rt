@@ -1,4 +1,6 @@
 // Keys in a set: a slot holds one more than a key, and 0 where it is free.
+#![tactic(auto)]
+
 ghost use Rattle.std.specs.Prelude.{◌<◌, length};
 ghost use Rattle.key_sets.specs.Sets.{window, Probed, KeyPut};
 

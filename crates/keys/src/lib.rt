@@ -1,4 +1,6 @@
 // The keys of tables: which rows and words they are, the rows that a lookup goes through, and the slots that are tried for a key.
+#![tactic(auto)]
+
 ghost use Rattle.std.specs.Prelude.{◌≡◌, ◌+◌, ◌*◌, ◌/◌, ◌<◌, ◌≤◌, length};
 ghost use Rattle.iff.specs.Lists.{has};
 ghost use Rattle.iff.specs.Tables.{row_width, rows_in, key_tag, key_word};

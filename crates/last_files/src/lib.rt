@@ -1,4 +1,6 @@
 // TIMETBLS and the files after it, read in order, each into its own cleared table.
+#![tactic(auto)]
+
 ghost use Rattle.std.specs.Prelude.{◌≡◌, true};
 ghost use Rattle.iff.specs.Refusals.{fine};
 ghost use Rattle.last_files.specs.Lasts.{four, LastsReady, LastsRead};

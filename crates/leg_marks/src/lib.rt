@@ -1,5 +1,7 @@
 // Marks for the legs of a block. Each leg has one, which is set once at the most, so the work grows with the length of a block and not with its records
 // times its legs.
+#![tactic(auto)]
+
 ghost use Rattle.std.specs.Prelude.{◌≡◌, ◌&&◌, ◌-◌, ◌≤◌, ◌<◌, leb, ltb, length, get_or};
 ghost use Rattle.iff_rules.specs.Legs.{one};
 ghost use Rattle.leg_marks.specs.Once.{once_to};

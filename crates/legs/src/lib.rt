@@ -1,5 +1,7 @@
 // Test 10 of document 01, "Legs", on rows, as the definition has it: whether first and last of a record are in range, and the legs that lie in it, which
 // are marked.
+#![tactic(auto)]
+
 ghost use Rattle.std.specs.Prelude.{◌≡◌, ◌≤◌, length};
 ghost use Rattle.iff.specs.Words.{named};
 ghost use Rattle.iff_rules.specs.Legs.{reach_of, in_range, ranged, ranged_by};

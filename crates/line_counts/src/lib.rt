@@ -1,5 +1,7 @@
 // The lines of a text, counted by their ends: in runs so short that a byte counts what one of them has, which the compiler does for many bytes at
 // once.
+#![tactic(auto)]
+
 ghost use Rattle.std.specs.Prelude.{◌≡◌, ◌+◌, ◌≤◌, ◌<◌, length, drop, get_or};
 ghost use Rattle.iff.specs.Lines.{lines, crlf};
 ghost use Rattle.line_counts.specs.Ends.{one, ends, unended};

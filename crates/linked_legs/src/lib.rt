@@ -1,5 +1,7 @@
 // Records of legs in a block's rows in a table that follow each other from the first stop to the last: those of one kind, and those of all kinds in
 // one pass.
+#![tactic(auto)]
+
 ghost use Rattle.std.specs.Prelude.{◌≡◌, ◌+◌, ◌*◌, ◌≤◌, length};
 ghost use Rattle.iff.specs.Tables.{row_at, row_width};
 ghost use Rattle.iff.specs.declared.File.TheVariants.{Timetbls};

@@ -1,4 +1,6 @@
 // A load: the eleven files tested and read in order, and their rows left in the eleven tables. A refused load leaves every table zero.
+#![tactic(auto)]
+
 ghost use Rattle.std.specs.Prelude.{length};
 ghost use Rattle.iff.specs.Files.{eleven};
 ghost use Rattle.iff_laws.specs.Outcomes.{Loaded};

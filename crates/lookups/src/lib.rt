@@ -1,4 +1,6 @@
 // The keys of tables, looked up: the row of a key among the first rows, by one search after the other (`key_places`, `halves`).
+#![tactic(auto)]
+
 ghost use Rattle.std.specs.Prelude.{◌≡◌};
 ghost use Rattle.iff.specs.Lists.{has};
 ghost use Rattle.iff.specs.declared.File.TheVariants.{Timetbls};

@@ -1,5 +1,7 @@
 // A change that may name a service which is not there, on tables that were found sound: where an index of the services says so, it is refused with no
 // search for the service.
+#![tactic(auto)]
+
 ghost use Rattle.std.specs.Prelude.{◌≡◌, List, [], true};
 ghost use Rattle.iff.specs.Files.{PerFile};
 ghost use Rattle.iff.specs.Tables.{Row, rows_in};

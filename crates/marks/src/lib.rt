@@ -1,5 +1,7 @@
 // Marks of the keys that came so far, or of other numbers, by which nearly every new one is told to be new without a search, in whatever order they
 // come.
+#![tactic(auto)]
+
 ghost use Rattle.std.specs.Prelude.{◌≡◌, not, true, false, List, ℕ, ◌<◌, length};
 ghost use Rattle.iff.specs.Lists.{has};
 ghost use Rattle.keys.specs.Lookup.{keys_in};

@@ -1,5 +1,7 @@
 // The places of what CHANGES and XCHANGES name, found before their first line or row: a hint where to look. Of the services, of which there may be far
 // more than there are slots, those alone that are named have a place.
+#![tactic(auto)]
+
 ghost use Rattle.std.specs.Prelude.{◌≡◌, false, ◌+◌, ◌*◌, ◌≤◌, length};
 
 use iff::{File, GroupFile, RowFile, RowOf, tags, words};

@@ -1,5 +1,7 @@
 // The needed time of a change, of a store that was found sound: the pair of CHANGES, the station's flag, the best row of XCHANGES, the station's time.
 // What the answer does not need is not looked for.
+#![tactic(auto)]
+
 ghost use Rattle.std.specs.Prelude.{◌≡◌, List, ◌-◌, length};
 ghost use Rattle.iff.specs.Files.{PerFile};
 ghost use Rattle.iff.specs.Tables.{Row, row_width, rows_in};

@@ -1,4 +1,6 @@
 // Whether the service of a block of TIMETBLS is new to those before it, told or taken to be; and what is remembered of them all.
+#![tactic(auto)]
+
 ghost use Rattle.std.specs.Prelude.{◌≡◌, true, false, length};
 ghost use Rattle.iff.specs.declared.Form.{Form};
 ghost use Rattle.iff.specs.declared.File.TheVariants.{Timetbls};

@@ -1,5 +1,7 @@
 // The paper's numbers: of a refusal, of a file and of a place; and the answer of a load or an amendment in such numbers, for callers to whom an enum
 // cannot be handed.
+#![tactic(auto)]
+
 ghost use Rattle.std.specs.Prelude.{◌≡◌};
 ghost use Rattle.iff.specs.Files.{file_number, file_at};
 ghost use Rattle.iff.specs.Refusals.{number, ordinal, line_at};

@@ -1,4 +1,6 @@
 // The group of a file of groups that lines are put to: one that begins, and one with a row more.
+#![tactic(auto)]
+
 ghost use Rattle.std.specs.Prelude.{◌≡◌, ◌+◌, ◌^◌, ◌<◌};
 ghost use Rattle.open_groups.specs.Open.{opening, run_after, open_after};
 

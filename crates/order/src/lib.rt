@@ -1,4 +1,6 @@
 // Document 01's Order: what may follow what in a block, which records are stops, and where a block may end.
+#![tactic(auto)]
+
 ghost use Rattle.std.specs.Prelude.{◌≡◌};
 ghost use Rattle.iff_rules.specs.Order.{is_stop, goes, finished};
 

@@ -1,5 +1,7 @@
 // What CHANGES says of a change at a station: the row of two services. The table comes with the number of its rows in use, and with an exact index of
 // the stations that open its groups.
+#![tactic(auto)]
+
 ghost use Rattle.std.specs.Prelude.{◌≡◌, List, ◌+◌, ◌*◌, ◌≤◌, length};
 ghost use Rattle.iff.specs.Files.{PerFile};
 ghost use Rattle.iff.specs.Lists.{kept};

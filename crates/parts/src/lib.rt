@@ -1,4 +1,6 @@
 // Parts of lent texts, by their bounds, and where a line stands that is looked for.
+#![tactic(auto)]
+
 ghost use Rattle.std.specs.Prelude.{◌≡◌, Bool, ◌≤◌, length, drop};
 ghost use Rattle.iff.specs.Lines.{lines};
 ghost use Rattle.iff_desk.specs.Parts.{seek as seekFrom, seek_after, is_station, is_head};

@@ -1,4 +1,6 @@
 // A zone's period in a sound store: the one that holds a day.
+#![tactic(auto)]
+
 ghost use Rattle.std.specs.Prelude.{◌≡◌, ◌+◌, ◌*◌, ◌≤◌, length};
 ghost use Rattle.iff.specs.Tables.{row_width, row_at, rows_in};
 ghost use Rattle.iff.specs.declared.GroupFile.TheVariants.{Timezone};

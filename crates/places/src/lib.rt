@@ -1,4 +1,6 @@
 // The rows of keys put into slots, as a hint for lookups (`lookups::find_at`): the keys of a table, or those services alone that a file names.
+#![tactic(auto)]
+
 ghost use Rattle.std.specs.Prelude.{◌≡◌, ◌<◌, length};
 ghost use Rattle.places.specs.Slots.{Inside};
 

@@ -1,4 +1,6 @@
 // The answers to the desk's questions but a change as the paper's numbers and values, for callers to whom an enum cannot be handed.
+#![tactic(auto)]
+
 ghost use Rattle.std.specs.Prelude.{◌≡◌};
 ghost use Rattle.iff_desk.specs.Answers.{partNumber, localShown, referenceShown};
 ghost use Rattle.numbers.specs.Numbers.{is_shown, minutes_or0};

@@ -1,6 +1,8 @@
 // A TIMETBLS block that is right, read in one pass: each line is told to be right where it stands, and its row is put into the table at once.
 // What is not told to be right here is left to the readers that name faults: nothing is said of it but that rows before the block's and behind
 // them are as they were, so that those readers' rows, as many as the block has lines, stand where rows of it were put.
+#![tactic(auto)]
+
 ghost use Rattle.std.specs.Prelude.{◌≡◌, true, ◌+◌, ◌*◌, ◌≤◌, ◌<◌, length};
 ghost use Rattle.iff.specs.Tables.{row_width};
 ghost use Rattle.iff.specs.declared.File.TheVariants.{Timetbls};

@@ -1,4 +1,6 @@
 // The records of a TIMETBLS block that name a footnote, told to be right where they stand, and the words that they leave: as `quick_records` has it.
+#![tactic(auto)]
+
 ghost use Rattle.std.specs.Prelude.{true, ◌<◌, ◌≤◌, length};
 ghost use Rattle.iff.specs.Columns.{validity_fields, attribute_fields, platform_fields};
 ghost use Rattle.iff.specs.declared.GroupFile.TheVariants.{Footnote};

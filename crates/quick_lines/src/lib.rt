@@ -1,6 +1,8 @@
 // Lines of TIMETBLS told to be right where they stand. Every record there has a length of its own and no allowed byte is CR, so a look at its
 // columns and at the two bytes behind them tells a line's end, its layout and its figures at once. What is told is right; of what is not told
 // nothing is said, and the readers that name faults look at it.
+#![tactic(auto)]
+
 ghost use Rattle.std.specs.Prelude.{◌≡◌, true, ◌+◌, ◌<◌, ◌≤◌, length, get_or};
 ghost use Rattle.iff.specs.Lists.{all2};
 ghost use Rattle.iff.specs.Lines.{crlf};

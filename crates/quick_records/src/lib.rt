@@ -2,6 +2,8 @@
 // the words that they leave. One function a record, with its picture and the file that it names at the call: so the compiler knows each column's mark
 // and where a key stands in its row. What is named is looked for at its place alone: what is missed there is left to others, as all that is not told.
 // Here the service's first record, and those that name a company and a mode; `quick_footnotes` and `quick_stops` have the others.
+#![tactic(auto)]
+
 ghost use Rattle.std.specs.Prelude.{true, [], ◌∷◌, ◌<◌, ◌≤◌, length};
 ghost use Rattle.iff.specs.Columns.{service_fields, number_fields, transport_fields};
 ghost use Rattle.iff.specs.declared.RowFile.TheVariants.{Company, Trnsmode};

@@ -1,4 +1,6 @@
 // The records of a TIMETBLS block that name a station, told to be right where they stand, and the words that they leave: as `quick_records` has it.
+#![tactic(auto)]
+
 ghost use Rattle.std.specs.Prelude.{true, ◌&&◌, ◌<◌, ◌≤◌, ltb, length};
 ghost use Rattle.iff.specs.Columns.{stop_fields, interval_fields, passed_fields};
 ghost use Rattle.iff.specs.Times.{is_time, interval as isInterval};

@@ -1,4 +1,6 @@
 // The words that a record of a TIMETBLS block leaves where it is told to be right, and what is told of it: one law for each record.
+#![tactic(auto)]
+
 ghost use Rattle.std.specs.Prelude.{◌≡◌, ◌≤◌, length};
 ghost use Rattle.iff.specs.Values.{stop_of, number_of};
 

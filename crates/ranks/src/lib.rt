@@ -1,4 +1,6 @@
 // The rank of an exception: the place of its pattern on the desk's card.
+#![tactic(auto)]
+
 ghost use Rattle.std.specs.Prelude.{◌≡◌};
 ghost use Rattle.iff_desk.specs.Card.{pattern, place_of, is_named};
 ghost use Rattle.iff_desk.specs.Changing.{rank as rank_of};

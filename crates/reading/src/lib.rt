@@ -1,4 +1,6 @@
 // What the readers of files hand to each other; what they promise is in specs/.
+#![tactic(auto)]
+
 ghost use Rattle.std.specs.Prelude.{◌+◌, ◌^◌, ◌<◌, ◌≡◌};
 
 use iff::{Place, Reason};

@@ -1,5 +1,7 @@
 // One line of one record: its layout, its figures and codes, and the row that it leaves, by the columns of the crate `records`.
 // What a function does it does for every record, and is proved once. Only the vector, which is as wide as there are days, has functions of its own.
+#![tactic(auto)]
+
 ghost use Rattle.std.specs.Prelude.{◌≡◌, true, ◌||◌, [], ◌∷◌, suc, ◌-◌, ◌*◌, ◌≤◌, ◌<◌, length, drop, replicate};
 ghost use Rattle.std.proofs.Math.Seq.{slice};
 ghost use Rattle.iff.specs.Bytes.{digit, zero_or_one};

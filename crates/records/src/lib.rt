@@ -1,6 +1,8 @@
 // The columns of the records: their pictures and fields, and which record a line is.
 // The columns are data here as they are in the crate `iff`: all pictures, all fields, and for each record its part of both. What is done with
 // a line by them is in the crate `record_lines`.
+#![tactic(auto)]
+
 ghost use Rattle.std.specs.Prelude.{◌≡◌, ◌-◌, ◌≤◌, take, drop};
 ghost use Rattle.iff.specs.Bytes.{hash};
 ghost use Rattle.iff.specs.Columns.{on, row_record, group_record, block_record};

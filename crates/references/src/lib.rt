@@ -1,5 +1,7 @@
 // What document 01's References are looked up in: the rows in use of the tables that files name, and the keys among them; and DELIVERY's own company.
 // That what a row names is there is asked in `block_references`, `row_references` and `group_references`.
+#![tactic(auto)]
+
 ghost use Rattle.std.specs.Prelude.{◌≡◌, List, ℕ};
 ghost use Rattle.iff.specs.Refusals.{or_else};
 ghost use Rattle.iff_rules.specs.Rows.{Context};

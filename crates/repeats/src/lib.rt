@@ -1,4 +1,6 @@
 // Services that come twice, told of a whole table in a few walks over it, in whatever order they come: each walk asks for the services of one class.
+#![tactic(auto)]
+
 ghost use Rattle.std.specs.Prelude.{◌*◌, ◌<◌, ◌≤◌, length};
 ghost use Rattle.iff.specs.Tables.{row_width};
 ghost use Rattle.iff.specs.declared.File.TheVariants.{Timetbls};

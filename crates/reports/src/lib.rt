@@ -1,4 +1,6 @@
 // The check program's second line, put together as text in a lent buffer. What has no room is cut off.
+#![tactic(auto)]
+
 ghost use Rattle.std.specs.Prelude.{◌∷◌};
 ghost use Rattle.iff.specs.Bytes.{blank};
 ghost use Rattle.text_puts.specs.Texts.{Appended, Front};

@@ -1,4 +1,6 @@
 // The files of rows: COMPANY, COUNTRY, TRNSMODE, STATIONS. A first line, and the rows after it.
+#![tactic(auto)]
+
 ghost use Rattle.std.specs.Prelude.{◌≡◌, true};
 ghost use Rattle.iff.specs.Refusals.{fine};
 ghost use Rattle.iff.specs.declared.File.TheVariants.{Rows};

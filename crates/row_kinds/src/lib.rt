@@ -1,4 +1,6 @@
 // The tests of one row of a TIMETBLS block by the kind of its record, over the row's words.
+#![tactic(auto)]
+
 ghost use Rattle.std.specs.Prelude.{◌≡◌, true, ◌&&◌, eqb, ltb};
 ghost use Rattle.iff.specs.Lists.{has};
 ghost use Rattle.iff.specs.Values.{code_right};

@@ -1,6 +1,8 @@
 // Test 10 of document 01, "Legs", over the rows of a block in a table. Nearly every block has records that follow each other from the first stop to
 // the last, and those cover each leg once: one pass tells, and no leg is marked. Only where they do not, the kinds are asked one by one, and each leg
 // has a mark.
+#![tactic(auto)]
+
 ghost use Rattle.std.specs.Prelude.{◌≡◌, ◌-◌, ◌*◌, ◌≤◌, length};
 ghost use Rattle.iff.specs.Lists.{all};
 ghost use Rattle.iff.specs.Tables.{row_at, row_width};

@@ -1,6 +1,8 @@
 // What is remembered of the lines of a file of rows by marks, so that nearly every new key and every new text is told to be new without a search.
 // Marks have to be cleared before a file is read, which would cost a short file more than its searches: where less is lent than marks take,
 // nothing is marked, and everything is searched for.
+#![tactic(auto)]
+
 ghost use Rattle.std.specs.Prelude.{◌≡◌, not, map};
 ghost use Rattle.iff.specs.Lists.{has};
 ghost use Rattle.iff.specs.Lines.{lines};

@@ -1,4 +1,6 @@
 // Words moved within one lent table, and the places that they leave cleared. Rows move as their words do: one pass over what moves.
+#![tactic(auto)]
+
 ghost use Rattle.std.specs.Prelude.{◌≡◌, ◌+◌, ◌≤◌, length};
 ghost use Rattle.row_moves.specs.Moves.{copied, moved, Movable};
 

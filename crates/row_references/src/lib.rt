@@ -1,4 +1,6 @@
 // What a row of a file of rows names in other files is there: document 01's References, for STATIONS. Rows in use are counted once (`references`).
+#![tactic(auto)]
+
 ghost use Rattle.std.specs.Prelude.{◌≡◌, length};
 ghost use Rattle.iff.specs.Tables.{row_width};
 ghost use Rattle.iff.specs.declared.RowFile.TheVariants.{Stations};

@@ -1,4 +1,6 @@
 // The file lengths that tables imply: the lines that a table's rows stand for make no longer a file than test 1 lets pass.
+#![tactic(auto)]
+
 ghost use Rattle.std.specs.Prelude.{◌≡◌, ℕ, ◌+◌, ◌*◌, ◌≤◌, leb, length};
 ghost use Rattle.iff.specs.Lists.{total};
 ghost use Rattle.iff.specs.Files.{limit};

@@ -1,5 +1,7 @@
 // The words of one row of a TIMETBLS block and what they name, as "Soundness" of document 01 asks for them. A row's tag is asked once: each kind of
 // record has its tests in one place, in the crate `row_kinds`.
+#![tactic(auto)]
+
 ghost use Rattle.std.specs.Prelude.{◌≡◌, length};
 ghost use Rattle.iff.specs.Tables.{row_width};
 ghost use Rattle.iff.specs.declared.File.TheVariants.{Timetbls};

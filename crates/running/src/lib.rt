@@ -1,4 +1,6 @@
 // "Running day: service, leg, date. 12, 13, 14.", of a store that was found sound.
+#![tactic(auto)]
+
 ghost use Rattle.std.specs.Prelude.{◌≡◌, List, ◌&&◌, ℕ, leb, ltb};
 ghost use Rattle.iff.specs.Files.{PerFile};
 ghost use Rattle.iff.specs.Tables.{Row, row_width, rows_in};

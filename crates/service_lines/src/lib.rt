@@ -1,4 +1,6 @@
 // A service's lines now, a part of the lent TIMETBLS or of an amendment's block.
+#![tactic(auto)]
+
 ghost use Rattle.std.specs.Prelude.{◌≡◌, ◌≤◌, length, drop};
 ghost use Rattle.iff.specs.Lists.{all};
 ghost use Rattle.iff.specs.Lines.{lines};

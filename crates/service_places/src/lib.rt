@@ -1,4 +1,6 @@
 // Where a service's block stands among the blocks of TIMETBLS.
+#![tactic(auto)]
+
 ghost use Rattle.std.specs.Prelude.{◌≡◌, suc, ◌≤◌, length};
 ghost use Rattle.iff.specs.Tables.{rows_in};
 ghost use Rattle.iff.specs.declared.File.TheVariants.{Timetbls};

@@ -1,4 +1,6 @@
 // A service's rows, a part of TIMETBLS: how many stops they have, a stop by its number, and the record of a kind that a leg lies in.
+#![tactic(auto)]
+
 ghost use Rattle.std.specs.Prelude.{◌≡◌, ◌+◌, ◌-◌, ◌*◌, ◌≤◌, length};
 ghost use Rattle.iff.specs.Tables.{row_width, row_at, tag};
 ghost use Rattle.iff.specs.Words.{stop_count};

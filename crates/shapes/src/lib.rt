@@ -1,6 +1,8 @@
 // A row's words are those of a record: what soundness asks of every row before its meaning.
 // The record's columns are the data of the crate `records`: a row has one word for each entry there, behind its tag, and then zeros. Only the
 // vector, which is as wide as there are days, has functions of its own, in the crate `day_marks`.
+#![tactic(auto)]
+
 ghost use Rattle.std.specs.Prelude.{◌≡◌, suc, ◌-◌, ◌≤◌, ◌<◌, length, drop};
 ghost use Rattle.std.proofs.Math.Seq.{slice};
 ghost use Rattle.iff.specs.Columns.{record_of, record_fields};

@@ -1,4 +1,6 @@
 // An answer of a sheet in words: those of a change's answer, and the gap, which has a sign.
+#![tactic(auto)]
+
 ghost use Rattle.std.specs.Prelude.{◌≡◌};
 ghost use Rattle.sheet_answers.specs.Words.{signed_word, sheet_words};
 

@@ -1,4 +1,6 @@
 // The questions of a sheet answered, of tables found sound: 23 first, then what all of them share is found once, and each is answered by itself.
+#![tactic(auto)]
+
 ghost use Rattle.std.specs.Prelude.{◌≡◌, List, true, ◌*◌, ◌≤◌, length};
 ghost use Rattle.iff.specs.Files.{PerFile};
 ghost use Rattle.iff.specs.Tables.{Row, rows_in};

@@ -1,24 +1,24 @@
 -- Request W12 told question by question: where the answer to each stands, what stays as it was, and that a call with one input ends in one way.
 -- Assumes nothing.
-use Prim.Native.Nat.{ℕ, zero, suc, ◌+◌, ◌-◌, ◌*◌, ◌/◌, ◌^◌, ◌≤◌, ◌<◌}
+use Prim.Native.Nat.{ℕ, zero, suc, ◌+◌, ◌*◌, ◌^◌, ◌<◌}
 use mathlib.Core.Path.{◌≡◌, refl, ap, sym, ◌∙◌}
-use mathlib.Core.List.{List, [], ◌∷◌, ◌++◌, map, append_assoc}
-use mathlib.Core.Bool.{Bool, true, false}
+use mathlib.Core.List.{List, ◌++◌, map, append_assoc}
+use mathlib.Core.Bool.{false}
 use native.Mathlib.Omega.{arith}
 use lib.IntN.{ℤ, pos, negsuc}
 use lib.Signed.{mag}
 use lib.ListN.{length, take, drop, length-append}
 use lib.Seq.{take_at, drop_at, drop-drop}
 use Rattle.iff.specs.Files.{PerFile}
-use Rattle.iff.specs.Refusals.{first_test, unless}
-use Rattle.iff.specs.Tables.{Row, row_at, joined}
+use Rattle.iff.specs.Refusals.{first_test}
+use Rattle.iff.specs.Tables.{row_at, joined}
 use Rattle.iff.specs.declared.Reason.{Reason}
-use Rattle.iff.specs.declared.Reason.TheVariants.{NotSound, ShortList}
+use Rattle.iff.specs.declared.Reason.TheVariants.{NotSound}
 use Rattle.iff.specs.declared.Test.{Test}
 use Rattle.iff.specs.declared.Test.TheVariants.{Passes, Fails}
 use Rattle.iff_desk.specs.Sound.{sound}
 use Rattle.iff_desk.specs.Changing.{Side, change}
-use Rattle.iff_desk.specs.Sheet.{answer_width, asked, answer_room, from_at, to_at, answers_by, answers_to, sheet_test}
+use Rattle.iff_desk.specs.Sheet.{answer_width, asked, from_at, to_at, answers_by, answers_to, sheet_test}
 use Rattle.iff_desk.specs.declared.Change.{Change}
 use Rattle.iff_laws.specs.Outcomes.{one_outcome}
 use Rattle.change_numbers.specs.Numbers.{change_words}

@@ -1,4 +1,6 @@
 // The questions of a sheet answered one after the other, of a store that was found sound: each by itself, and its answer put where it belongs.
+#![tactic(auto)]
+
 ghost use Rattle.std.specs.Prelude.{◌≡◌, List, true, ◌+◌, ◌*◌, ◌≤◌, length};
 ghost use Rattle.iff.specs.Files.{PerFile};
 ghost use Rattle.iff.specs.Tables.{Row, put_row};

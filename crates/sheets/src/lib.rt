@@ -1,5 +1,7 @@
 // "A connection sheet asks a thousand changes and each call tests the tables again. We want a call that takes a list of questions, tests once, and fills
 // a lent list of answers, each the one that the single question gives." Eleven lent tables of any length and content, and two lists of any length.
+#![tactic(auto)]
+
 ghost use Rattle.iff.specs.Files.{eleven};
 ghost use Rattle.sheets.specs.Sheeted.{Sheeted};
 

@@ -1,4 +1,6 @@
 // The size of one file, tested before any file is read: its length, its presence, and its table's room.
+#![tactic(auto)]
+
 ghost use Rattle.std.specs.Prelude.{◌≡◌, Bool, ltb, length};
 ghost use Rattle.iff.specs.Files.{needed};
 ghost use Rattle.iff.specs.Refusals.{or_else};

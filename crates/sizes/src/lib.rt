@@ -1,4 +1,6 @@
 // The sizes of a delivery's files, tested before any of them is read: 1, then 3, then 2, each over the files in order.
+#![tactic(auto)]
+
 ghost use Rattle.std.specs.Prelude.{◌≡◌};
 ghost use Rattle.iff.specs.Files.{eleven};
 ghost use Rattle.iff.specs.Refusals.{or_else};

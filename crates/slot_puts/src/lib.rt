@@ -1,4 +1,6 @@
 // The key of one row of a table told to be new, and its row put into the slots of an index.
+#![tactic(auto)]
+
 ghost use Rattle.std.specs.Prelude.{◌≡◌, true, not, ◌*◌, ◌≤◌, length};
 ghost use Rattle.iff.specs.Tables.{row_width};
 ghost use Rattle.iff.specs.Lists.{has};

@@ -1,4 +1,6 @@
 // The slots of an index of keys: whether a row of a key stands in one of those that are tried for it, and which of them is free.
+#![tactic(auto)]
+
 ghost use Rattle.std.specs.Prelude.{◌≡◌, ◌&&◌, ◌*◌, ◌<◌, ◌≤◌, ltb, length};
 ghost use Rattle.iff.specs.Tables.{row_width, row_at, keyed};
 ghost use Rattle.keys.specs.Places.{probes, place_of};

@@ -1,5 +1,7 @@
 // Soundness of eleven lent tables, of any length and content: "Tables are sound when the needed first lines are there, rows meet every rule here on kept
 // fields and file length, and unused places are zero."
+#![tactic(auto)]
+
 ghost use Rattle.std.specs.Prelude.{◌≡◌, true, ◌&&◌, List, ltb, ℕ, ◌≤◌, length};
 ghost use Rattle.iff.specs.Files.{PerFile, eleven};
 ghost use Rattle.iff.specs.Tables.{rows_in};

@@ -1,5 +1,7 @@
 // The rows behind first lines', file by file: each function hands a refusal on, and a table without rows has nothing to be tested. TIMETBLS, whose rows
 // are most of a delivery's, is gone through once, for its frame too.
+#![tactic(auto)]
+
 ghost use Rattle.std.specs.Prelude.{◌≡◌, ◌&&◌, ◌≤◌, ◌<◌, length};
 ghost use Rattle.iff.specs.Tables.{rows_in};
 ghost use Rattle.iff.specs.declared.File.TheVariants.{Rows, Groups, Timetbls};

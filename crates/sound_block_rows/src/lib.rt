@@ -1,4 +1,6 @@
 // One row of a TIMETBLS block, as "Soundness" of document 01 asks for it: where it stands, its words, its number in the block, and what it names.
+#![tactic(auto)]
+
 ghost use Rattle.std.specs.Prelude.{◌≡◌, ◌+◌, ◌≤◌, length};
 ghost use Rattle.iff.specs.Tables.{row_width};
 ghost use Rattle.iff.specs.declared.File.TheVariants.{Timetbls};

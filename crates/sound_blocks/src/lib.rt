@@ -1,4 +1,6 @@
 // One block of TIMETBLS, as "Soundness" of document 01 asks for it: its rows from its `#` to the next, and the block as a whole.
+#![tactic(auto)]
+
 ghost use Rattle.sound_row_walks.specs.Walk.{used_in, BlockAt};
 ghost use Rattle.sound_blocks.specs.Blocks.{BlockTold};
 

@@ -1,4 +1,6 @@
 // A first line's row is sound: as DELIVERY's on what is kept, with the derived words that belong there.
+#![tactic(auto)]
+
 ghost use Rattle.std.specs.Prelude.{◌≡◌, List, ◌≤◌, eqb, length};
 ghost use Rattle.iff.specs.Lists.{same};
 ghost use Rattle.iff.specs.Tables.{Row, row_width, keys_of, rising};

@@ -1,5 +1,7 @@
 // What soundness asks of every table alike: its first line's row, keys that are distinct, the length of the file it stands for, and unused places that
 // are zero. On the way its keys go into the index.
+#![tactic(auto)]
+
 ghost use Rattle.std.specs.Prelude.{◌≡◌, true, ◌&&◌, ◌*◌, ◌≤◌, ◌<◌, length};
 ghost use Rattle.iff.specs.Tables.{row_width, rows_in, keys_of, rising};
 ghost use Rattle.iff_desk.specs.Sound.{distinct};

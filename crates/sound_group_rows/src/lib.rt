@@ -1,5 +1,7 @@
 // One row of a file of groups is sound: it is one that a line of its group may leave after the rows before it. One that is sound is remembered, by which
 // nearly every later row of its group is told to be new without a look at the others.
+#![tactic(auto)]
+
 ghost use Rattle.std.specs.Prelude.{◌≡◌, [], ◌+◌, ◌*◌, ◌≤◌, length, drop};
 ghost use Rattle.iff.specs.Tables.{row_at, row_width};
 ghost use Rattle.iff.specs.declared.File.TheVariants.{Groups};

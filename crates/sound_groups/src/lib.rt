@@ -1,4 +1,6 @@
 // Files of groups are sound: every row after the first line's stands in a group, and is one that a line of the group may leave.
+#![tactic(auto)]
+
 ghost use Rattle.std.specs.Prelude.{◌≡◌, ◌*◌, ◌≤◌, length};
 ghost use Rattle.iff.specs.Tables.{row_width};
 ghost use Rattle.iff.specs.declared.File.TheVariants.{Groups};

@@ -1,4 +1,6 @@
 // The rows of one block of TIMETBLS, as "Soundness" of document 01 asks for them, from its `#` to the next.
+#![tactic(auto)]
+
 ghost use Rattle.std.specs.Prelude.{◌≡◌, false, ◌&&◌, ◌+◌, ◌*◌, ◌≤◌, ltb, length};
 ghost use Rattle.iff.specs.Tables.{row_at, row_width, is_hash_row};
 ghost use Rattle.iff.specs.declared.File.TheVariants.{Timetbls};

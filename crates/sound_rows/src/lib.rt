@@ -1,4 +1,6 @@
 // Files of rows are sound: every row after the first line's is one that a line of its file may leave.
+#![tactic(auto)]
+
 ghost use Rattle.std.specs.Prelude.{◌≡◌, ◌+◌, ◌-◌, ◌*◌, ◌≤◌, length};
 ghost use Rattle.iff.specs.Tables.{row_at, row_width};
 ghost use Rattle.iff.specs.declared.File.TheVariants.{Rows};

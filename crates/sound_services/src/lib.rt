@@ -1,4 +1,6 @@
 // The services of a table told to be distinct while its blocks are tested: the first ones by the index, and of more of them by walks over the table.
+#![tactic(auto)]
+
 ghost use Rattle.std.specs.Prelude.{◌≡◌, ◌≤◌, length};
 ghost use Rattle.iff.specs.declared.File.TheVariants.{Timetbls};
 ghost use Rattle.iff_desk.specs.Sound.{distinct};

@@ -1,4 +1,6 @@
 // Soundness of eleven lent tables, told with slots of its own for the index of the keys.
+#![tactic(auto)]
+
 ghost use Rattle.std.specs.Prelude.{◌≡◌};
 ghost use Rattle.iff.specs.Files.{eleven};
 ghost use Rattle.iff_desk.specs.Sound.{sound as are_sound};

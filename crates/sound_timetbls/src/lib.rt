@@ -1,4 +1,6 @@
 // The rows of TIMETBLS after its first line, as "Soundness" of document 01 asks for them: block by block, and no service comes twice.
+#![tactic(auto)]
+
 ghost use Rattle.std.specs.Prelude.{◌≡◌, false, ◌≤◌, length};
 ghost use Rattle.iff.specs.Tables.{row_at, row_width, is_hash_row};
 ghost use Rattle.iff.specs.declared.File.TheVariants.{Timetbls};

@@ -1,4 +1,6 @@
 // A station's name, a part of the lent STATIONS.
+#![tactic(auto)]
+
 ghost use Rattle.std.specs.Prelude.{◌≡◌};
 ghost use Rattle.iff_desk.specs.Parts.{name as name_of, name_test};
 ghost use Rattle.parts.specs.Bounds.{Inside};

@@ -1,5 +1,7 @@
 // "Stop time: service, stop, date: station, local and reference arrival and departure, each perhaps none. 12, 13, 14, 15.", of a store that was
 // found sound.
+#![tactic(auto)]
+
 ghost use Rattle.std.specs.Prelude.{◌≡◌, List, ◌<◌};
 ghost use Rattle.iff.specs.Days.{day_of};
 ghost use Rattle.iff.specs.Files.{PerFile};

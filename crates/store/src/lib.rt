@@ -1,5 +1,7 @@
 // What the questions look up in a sound store: the group that a key opens, a station's row, a word of the first line. A table comes with the
 // number of its rows in use and with places, a hint where its keys stand, on which nothing rests; or with an exact index of its keys.
+#![tactic(auto)]
+
 ghost use Rattle.std.specs.Prelude.{◌≡◌, ℕ, ◌<◌, length, List};
 ghost use Rattle.iff.specs.Files.{PerFile};
 ghost use Rattle.iff.specs.Tables.{Row, row_width, rows_in, word};

@@ -1,4 +1,6 @@
 // The keys of a table looked up with an exact index of them: a key that is not there is told by a free slot, and no row is searched for it.
+#![tactic(auto)]
+
 ghost use Rattle.std.specs.Prelude.{◌≡◌, true, false, ◌*◌, ◌≤◌, length};
 ghost use Rattle.iff.specs.Lists.{has};
 ghost use Rattle.iff.specs.Tables.{row_width};

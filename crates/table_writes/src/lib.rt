@@ -1,4 +1,6 @@
 // Lent tables written: a row put where it is to stand, and a table cleared.
+#![tactic(auto)]
+
 ghost use Rattle.std.specs.Prelude.{◌≡◌, ◌+◌, ◌*◌, ◌≤◌, length, replicate};
 ghost use Rattle.iff.specs.Tables.{put_row};
 

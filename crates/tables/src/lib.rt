@@ -1,4 +1,6 @@
 // Rows in lent u64 slices: read, counted, and asked for their keys. Every function is stated over the width of a row.
+#![tactic(auto)]
+
 ghost use Rattle.std.specs.Prelude.{◌≡◌, ◌+◌, ◌*◌, ◌<◌, ◌≤◌, length, get_or, drop};
 ghost use Rattle.iff.specs.Tables.{room as roomOf, word, row_at, rows_of_width, all_zero, keyed};
 ghost use Rattle.tables.specs.Widths.{WidthOf};

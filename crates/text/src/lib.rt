@@ -1,5 +1,7 @@
 // The bytes of a delivery, read as document 01 says: lines, columns, numbers and codes.
 // Every public function answers exactly what a definition of the crate `iff` says of the same bytes.
+#![tactic(auto)]
+
 ghost use Rattle.std.specs.Prelude.{◌≡◌, ◌+◌, ◌-◌, ◌≤◌, ◌<◌, length, take, drop, get_or};
 ghost use Rattle.iff.specs.Lists.{all, same};
 ghost use Rattle.iff.specs.Bytes.{allowed, digit, zero_or_one};

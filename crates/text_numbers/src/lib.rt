@@ -1,4 +1,6 @@
 // Numbers of the texts that no two lines may share. The same text has the same number, so that a text whose number is not marked has not come.
+#![tactic(auto)]
+
 ghost use Rattle.std.specs.Prelude.{◌≡◌, true, false, List, ◌++◌, ℕ, ◌≤◌, length};
 ghost use Rattle.iff.specs.declared.RowFile.TheVariants.{Company};
 ghost use Rattle.marks.specs.Marks.{slots, Marked};

@@ -1,4 +1,6 @@
 // The whole days of a time's minutes: "local minutes divided by 1440, rounded down".
+#![tactic(auto)]
+
 ghost use Rattle.std.specs.Prelude.{◌≡◌, ◌/◌, ◌<◌};
 
 // At most four, since a time reaches 99:59.

@@ -1,5 +1,7 @@
 // TIMETBLS, its first line and the blocks after it: each block is checked before anything of it is written, and the first fault is told with
 // its place.
+#![tactic(auto)]
+
 ghost use Rattle.std.specs.Prelude.{◌≡◌, true, ◌≤◌, length, drop};
 ghost use Rattle.iff.specs.Lines.{lines};
 ghost use Rattle.iff.specs.declared.File.TheVariants.{Timetbls};

@@ -1,4 +1,6 @@
 // How many rows of a table are in use, where all behind them is zero, as in every table that was found sound.
+#![tactic(auto)]
+
 ghost use Rattle.std.specs.Prelude.{◌≡◌, true, ◌*◌, length, drop};
 ghost use Rattle.iff.specs.Tables.{row_width, rows_in, all_zero};
 

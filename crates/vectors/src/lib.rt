@@ -1,4 +1,6 @@
 // A footnote's vector in a sound store, and its mark on a day.
+#![tactic(auto)]
+
 ghost use Rattle.std.specs.Prelude.{◌≡◌, ◌/◌, ◌%◌, ◌^◌, ◌<◌, ◌≤◌, eqb};
 ghost use Rattle.iff.specs.Tables.{rows_in, word};
 ghost use Rattle.iff.specs.declared.File.TheVariants.{Groups};

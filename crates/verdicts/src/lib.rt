@@ -1,4 +1,6 @@
 // A change where both services run and meet: the row of XCHANGES that counts, and the verdict on a gap. Numbers alone, no tables.
+#![tactic(auto)]
+
 ghost use Rattle.std.specs.Prelude.{◌≡◌, pos};
 ghost use Rattle.std.specs.Int.Signed.{lt_z};
 ghost use Rattle.iff_desk.specs.Changing.{fits_key, fits as fitsBoth, better as betterOf, settled as settledBy, by_time, core as core_of};

@@ -1,4 +1,6 @@
 // Walks over the groups of a table, by the numbers of its rows.
+#![tactic(auto)]
+
 ghost use Rattle.std.specs.Prelude.{◌*◌, ◌<◌, ◌≤◌, length};
 ghost use Rattle.walks.specs.Heads.{NextHead};
 

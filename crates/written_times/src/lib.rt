@@ -1,4 +1,6 @@
 // A stop's times as its row has them, and whether somebody may alight or board there.
+#![tactic(auto)]
+
 ghost use Rattle.std.specs.Prelude.{◌≡◌, List, ℕ};
 ghost use Rattle.iff.specs.Files.{PerFile};
 ghost use Rattle.iff.specs.Tables.{Row, row_width};

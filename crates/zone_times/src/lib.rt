@@ -1,4 +1,6 @@
 // A time by a zone's period: on the zone's clock and on the reference clock, where there is a period.
+#![tactic(auto)]
+
 ghost use Rattle.std.specs.Prelude.{◌≡◌, ◌<◌};
 ghost use Rattle.iff.specs.Tables.{row_width};
 ghost use Rattle.iff.specs.Words.{hours};

@@ -13,21 +13,21 @@ pub read_platform-overflow_add-number : goal.read_platform-overflow_add-number
 read_platform-overflow_add-number t c = omega arith
 
 pub read_platform-line_at-requires : goal.read_platform-line_at-requires
-read_platform-line_at-requires t c = (c.requires.1.0, c.requires.1.1.few)
+read_platform-line_at-requires t c = (c.requires.0, c.requires.1.few)
 
 pub read_platform-read_stops-requires : goal.read_platform-read_stops-requires
-read_platform-read_stops-requires t c = let r = goes_on _ _ _ _ _ _ _ _ _ (starts _ _ _ _ _ _ c.requires.1.1) _ c.line_at.ensures _ _ c.in-On.is in
+read_platform-read_stops-requires t c = let r = goes_on _ _ _ _ _ _ _ _ _ (starts _ _ _ _ _ _ c.requires.1) _ c.line_at.ensures _ _ c.in-On.is in
     (omega (arith, c.requires, c.line_at.ensures.past _ _ c.in-On.is), r.here)
 
 pub read_platform-returns-in-Off : goal.read_platform-returns-in-Off
-read_platform-returns-in-Off t c = held _ _ _ _ _ _ _ _ _ (starts _ _ _ _ _ _ c.requires.1.1) _ c.line_at.ensures _ c.in-Off.is
+read_platform-returns-in-Off t c = held _ _ _ _ _ _ _ _ _ (starts _ _ _ _ _ _ c.requires.1) _ c.line_at.ensures _ c.in-Off.is
 
 pub read_platform-returns-in-On : goal.read_platform-returns-in-On
-read_platform-returns-in-On t c = let r = goes_on _ _ _ _ _ _ _ _ _ (starts _ _ _ _ _ _ c.requires.1.1) _ c.line_at.ensures _ _ c.in-On.is in
+read_platform-returns-in-On t c = let r = goes_on _ _ _ _ _ _ _ _ _ (starts _ _ _ _ _ _ c.requires.1) _ c.line_at.ensures _ _ c.in-On.is in
     c.read_stops.ensures ∙ sym r.left
 
 pub read_stops-loop-at-init : goal.read_stops-loop-at-init
-read_stops-loop-at-init t c = starts _ _ _ _ _ _ c.requires.1
+read_stops-loop-at-init t c = starts _ _ _ _ _ _ c.requires
 
 pub read_stops-overflow_add-number : goal.read_stops-overflow_add-number
 read_stops-overflow_add-number t c = omega arith

@@ -1,10 +1,10 @@
 -- The bytes so far and those of the rows left are all. Assumes nothing.
-use Prim.Native.Nat.{◌-◌, ◌+◌}
+use Prim.Native.Nat.{◌+◌}
 use mathlib.Core.Path.{◌≡◌}
 use native.Mathlib.Omega.{arith}
 use borrow.Author.Rules.{rules}
 use Rattle.tables.proofs.Rows.{row_inside}
-use Rattle.edit_sizes.proofs.EditLaws.{Adding, size_between, size_none, size_step}
+use Rattle.edit_sizes.proofs.EditLaws.{size_between, size_none, size_step}
 use Rattle.edit_sizes.proofs.lines_length.Goals as goal
 
 pub word_at-tag-requires : goal.word_at-tag-requires

@@ -1,6 +1,6 @@
 -- The bytes so far and those of the rows left are all. Assumes nothing.
-use Prim.Native.Nat.{◌-◌, ◌+◌}
-use Rattle.edit_sizes.proofs.EditLaws.{Adding, size_between, size_none, size_step}
+use Prim.Native.Nat.{◌-◌}
+use Rattle.edit_sizes.proofs.EditLaws.{Adding}
 use Rattle.edit_sizes.proofs.lines_length.Given as goal
 
 abbrev pub invariant-loop-i : goal.invariant-loop-i

@@ -11,14 +11,14 @@ returns-then-fits-2 c =
     let a = c.args in
     c.is_marked_at.ensures
     ∙ keys_fit (rows_in (Groups Xfootnote) a.xfootnotes.now) a.a a.b a.day
-    (row_at (group_width Xchanges) a.t.now a.i) _ c.from_keys.ensures _ c.fits-then-fits.ensures
+    (row_at (group_width Xchanges) a.t.now a.i) _ c.from_keys.ensures _ c.fits.ensures
     c.if-fits.true _ c.to_keys.ensures _ c.fits-then-fits.ensures c.if-fits-2.true
 
 pub returns-then-fits : goal.returns-then-fits
 returns-then-fits c =
     let a = c.args in
     to_misses (rows_in (Groups Xfootnote) a.xfootnotes.now) a.a a.b a.day
-    (row_at (group_width Xchanges) a.t.now a.i) _ c.from_keys.ensures _ c.fits-then-fits.ensures
+    (row_at (group_width Xchanges) a.t.now a.i) _ c.from_keys.ensures _ c.fits.ensures
     c.if-fits.true _ c.to_keys.ensures _ c.fits-then-fits.ensures c.if-fits-2.false
 
 pub returns : goal.returns

@@ -1,8 +1,8 @@
 -- `file_rows::add_rows` meets its contract. The loop's invariant: what is left to read is the whole. Assumes nothing.
-use Prim.Native.Nat.{◌+◌, ◌-◌, ◌^◌, ◌<◌}
-use mathlib.Core.Path.{◌≡◌, refl, sym, ◌∙◌}
+use Prim.Native.Nat.{◌+◌, ◌^◌, ◌<◌}
+use mathlib.Core.Path.{refl, ◌∙◌}
 use native.Mathlib.Omega.{arith}
-use Rattle.file_rows.proofs.ReadLaws.{Reading, starts, line_room, stops, goes_on, ends, length_is}
+use Rattle.file_rows.proofs.ReadLaws.{starts, line_room, stops, goes_on, ends}
 use Rattle.file_rows.proofs.add_rows.Goals as goal
 
 pub loop-at-init : goal.loop-at-init

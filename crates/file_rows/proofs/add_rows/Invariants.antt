@@ -1,8 +1,8 @@
 -- `file_rows::add_rows` meets its contract. The loop's invariant: what is left to read is the whole. Assumes nothing.
-use Prim.Native.Nat.{◌+◌, ◌-◌, ◌^◌, ◌<◌}
-use mathlib.Core.Path.{◌≡◌, refl, sym, ◌∙◌}
+use Prim.Native.Nat.{◌-◌}
+use mathlib.Core.Path.{◌≡◌}
 use lib.ListN.{length}
-use Rattle.file_rows.proofs.ReadLaws.{Reading, starts, line_room, stops, goes_on, ends, length_is}
+use Rattle.file_rows.proofs.ReadLaws.{Reading}
 use Rattle.file_rows.proofs.add_rows.Given as goal
 
 abbrev pub invariant-loop-at : goal.invariant-loop-at

@@ -1,5 +1,5 @@
 -- `file_rows::store_row` meets its contract. Assumes nothing.
-use mathlib.Core.Path.{◌≡◌, refl, sym, ◌∙◌}
+use mathlib.Core.Path.{refl}
 use native.Mathlib.Omega.{arith}
 use Rattle.fresh_texts.specs.Texts.{as_line}
 use Rattle.iff.specs.declared.File.TheVariants.{Rows}

@@ -1,5 +1,4 @@
 -- `index_keys` meets its contract: before each row, what is left of the keys decides what is told of them all. Assumes nothing.
-use Prim.Native.Nat.{◌-◌}
 use native.Mathlib.Omega.{arith}
 use Rattle.index.proofs.KeyLaws.{none_indexed, at_row, one_indexed, again_told, all_told}
 use Rattle.index.proofs.index_keys.Goals as goal

@@ -1,5 +1,5 @@
 -- `parts::is_head` meets its contract: test by test. Assumes nothing.
-use mathlib.Core.Path.{◌≡◌, sym, ◌∙◌}
+use mathlib.Core.Path.{sym, ◌∙◌}
 use borrow.Author.Tests.{eq-eqb, ne_eqb, not-true, not-false}
 use Rattle.iff_desk.specs.Parts.{is_head}
 use Rattle.parts.proofs.is_head.Goals as goal

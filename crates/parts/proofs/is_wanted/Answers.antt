@@ -1,5 +1,5 @@
 -- `parts::is_wanted` meets its contract, arm by arm. Assumes nothing.
-use mathlib.Core.Path.{◌≡◌, ◌∙◌}
+use mathlib.Core.Path.{◌∙◌}
 use Rattle.parts.specs.Wants.{wants}
 use Rattle.parts.proofs.is_wanted.Goals as goal
 

@@ -1,7 +1,6 @@
 -- `parts::seek` meets its contract: what is left to look through is the whole. Assumes nothing.
-use Prim.Native.Nat.{◌-◌}
-use mathlib.Core.Path.{◌≡◌, sym, ◌∙◌}
-use Rattle.parts.proofs.SeekLaws.{Seeking, seeking_first, seeking_here, seeking_next, seeking_end}
+use mathlib.Core.Path.{sym, ◌∙◌}
+use Rattle.parts.proofs.SeekLaws.{seeking_first, seeking_here, seeking_next, seeking_end}
 use Rattle.parts.proofs.seek.Goals as goal
 
 pub returns-then-is_wanted : goal.returns-then-is_wanted

@@ -1,7 +1,7 @@
 -- `parts::seek` meets its contract: what is left to look through is the whole. Assumes nothing.
 use Prim.Native.Nat.{◌-◌}
 use lib.ListN.{length}
-use Rattle.parts.proofs.SeekLaws.{Seeking, seeking_first, seeking_here, seeking_next, seeking_end}
+use Rattle.parts.proofs.SeekLaws.{Seeking}
 use Rattle.parts.proofs.seek.Given as goal
 
 abbrev pub invariant-loop-at : goal.invariant-loop-at

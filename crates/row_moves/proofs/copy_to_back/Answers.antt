@@ -1,7 +1,7 @@
 -- `row_moves::copy_to_back` meets its contract: all but the first `left` words are copied. Assumes nothing.
 use Prim.Native.Nat.{◌-◌}
 use native.Mathlib.Omega.{arith}
-use Rattle.row_moves.proofs.CopyLaws.{Backing, back_start, back_next, back_end}
+use Rattle.row_moves.proofs.CopyLaws.{back_start, back_next, back_end}
 use Rattle.row_moves.proofs.copy_to_back.Goals as goal
 
 pub loop-left-preserved : goal.loop-left-preserved

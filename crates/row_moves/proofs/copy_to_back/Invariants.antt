@@ -1,6 +1,5 @@
 -- `row_moves::copy_to_back` meets its contract: all but the first `left` words are copied. Assumes nothing.
-use Prim.Native.Nat.{◌-◌}
-use Rattle.row_moves.proofs.CopyLaws.{Backing, back_start, back_next, back_end}
+use Rattle.row_moves.proofs.CopyLaws.{Backing}
 use Rattle.row_moves.proofs.copy_to_back.Given as goal
 
 abbrev pub invariant-loop-left : goal.invariant-loop-left

@@ -1,7 +1,6 @@
 -- `row_moves::copy_to_front` meets its contract: the first k words are copied. Assumes nothing.
-use Prim.Native.Nat.{◌-◌}
 use native.Mathlib.Omega.{arith}
-use Rattle.row_moves.proofs.CopyLaws.{Fronting, front_start, front_next, front_end}
+use Rattle.row_moves.proofs.CopyLaws.{front_start, front_next, front_end}
 use Rattle.row_moves.proofs.copy_to_front.Goals as goal
 
 pub loop-k-preserved : goal.loop-k-preserved

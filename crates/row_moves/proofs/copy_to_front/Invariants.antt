@@ -1,6 +1,6 @@
 -- `row_moves::copy_to_front` meets its contract: the first k words are copied. Assumes nothing.
 use Prim.Native.Nat.{◌-◌}
-use Rattle.row_moves.proofs.CopyLaws.{Fronting, front_start, front_next, front_end}
+use Rattle.row_moves.proofs.CopyLaws.{Fronting}
 use Rattle.row_moves.proofs.copy_to_front.Given as goal
 
 abbrev pub invariant-loop-k : goal.invariant-loop-k

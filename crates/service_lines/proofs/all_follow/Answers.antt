@@ -1,7 +1,6 @@
 -- `service_lines::all_follow` meets its contract: what is left to ask is the whole. Assumes nothing.
-use Prim.Native.Nat.{◌-◌}
-use borrow.Author.Tests.{eq-eqb, ne_eqb, not-true, not-false}
-use Rattle.service_lines.proofs.LinesLaws.{Following, following_first, following_not, following_next, following_all, not_ended, is_hash_lem, is_at, is_inner}
+use borrow.Author.Tests.{not-true, not-false}
+use Rattle.service_lines.proofs.LinesLaws.{following_first, following_not, following_next, following_all, not_ended, is_hash_lem, is_at, is_inner}
 use Rattle.service_lines.proofs.all_follow.Goals as goal
 
 pub returns-then-not-line : goal.returns-then-not-line

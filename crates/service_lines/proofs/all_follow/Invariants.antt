@@ -1,7 +1,7 @@
 -- `service_lines::all_follow` meets its contract: what is left to ask is the whole. Assumes nothing.
 use Prim.Native.Nat.{◌-◌}
 use lib.ListN.{length}
-use Rattle.service_lines.proofs.LinesLaws.{Following, following_first, following_not, following_next, following_all, not_ended, is_hash_lem, is_at, is_inner}
+use Rattle.service_lines.proofs.LinesLaws.{Following}
 use Rattle.service_lines.proofs.all_follow.Given as goal
 
 abbrev pub invariant-loop-at : goal.invariant-loop-at

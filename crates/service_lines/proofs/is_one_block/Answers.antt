@@ -1,5 +1,5 @@
 -- `service_lines::is_one_block` meets its contract: its first line, then those that follow. Assumes nothing.
-use mathlib.Core.Path.{◌≡◌, sym, ◌∙◌}
+use mathlib.Core.Path.{sym, ◌∙◌}
 use borrow.Author.Tests.{not-true, not-false}
 use Rattle.service_lines.proofs.LinesLaws.{block_none, block_unended, block_other, block_rest}
 use Rattle.service_lines.proofs.is_one_block.Goals as goal

@@ -1,5 +1,5 @@
 -- `service_lines::lines_now` meets its contract: the block, or the part of the text between its bounds. Assumes nothing.
-use mathlib.Core.Path.{◌≡◌, sym, ◌∙◌}
+use mathlib.Core.Path.{sym, ◌∙◌}
 use Rattle.service_lines.proofs.LinesLaws.{now_block, now_text}
 use Rattle.service_lines.proofs.lines_now.Goals as goal
 

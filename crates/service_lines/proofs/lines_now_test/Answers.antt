@@ -1,5 +1,5 @@
 -- `service_lines::lines_now_test` meets its contract. Assumes nothing.
-use mathlib.Core.Path.{◌≡◌, sym, ◌∙◌}
+use mathlib.Core.Path.{sym, ◌∙◌}
 use Rattle.service_lines.proofs.LinesLaws.{test_block, test_text}
 use Rattle.service_lines.proofs.lines_now_test.Goals as goal
 

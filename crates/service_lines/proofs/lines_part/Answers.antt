@@ -3,7 +3,7 @@ use Prim.Native.Nat.{◌+◌, ◌≤◌}
 use mathlib.Core.Path.{◌≡◌, sym, ap, ◌∙◌}
 use native.Mathlib.Omega.{arith}
 use lib.ListN.{length, drop}
-use Rattle.iff.specs.Lines.{lines, is_hash}
+use Rattle.iff.specs.Lines.{lines}
 use Rattle.iff.specs.declared.Test.TheVariants.{Passes}
 use Rattle.iff_desk.specs.Parts.{seek, seek_after}
 use Rattle.service_lines.specs.Bounds.{end_at, lines_from, lines_part}

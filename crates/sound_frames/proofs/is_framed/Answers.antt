@@ -1,10 +1,10 @@
 -- `sound_frames::is_framed` meets its contract: what stood before it, unused places, then the rows. Assumes nothing.
-use Prim.Native.Nat.{◌*◌, ◌≤◌, ◌<◌}
+use Prim.Native.Nat.{◌*◌}
 use mathlib.Core.Path.{◌≡◌, ap, sym, ◌∙◌}
-use mathlib.Core.Bool.{true, false, ◌&&◌}
+use mathlib.Core.Bool.{true, ◌&&◌}
 use native.Mathlib.Omega.{arith}
 use borrow.Author.Tests.{not-true, not-false}
-use lib.ListN.{length, drop}
+use lib.ListN.{drop}
 use Rattle.iff.specs.Tables.{row_width, all_zero}
 use Rattle.sound_frames.specs.Frames.{framed}
 use Rattle.walks.proofs.TableLaws.{inside}

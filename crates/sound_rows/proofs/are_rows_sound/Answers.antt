@@ -1,8 +1,7 @@
 -- `are_rows_sound` meets its contract: what is left is sound exactly when the whole is. Assumes nothing.
-use Prim.Native.Nat.{◌-◌}
 use borrow.Author.Tests.{not-true, not-false}
 use Rattle.tables.proofs.Rows.{row_inside}
-use Rattle.sound_rows.proofs.WalkLaws.{RowsWalked, starts, goes_on, breaks, ends}
+use Rattle.sound_rows.proofs.WalkLaws.{starts, goes_on, breaks, ends}
 use Rattle.sound_rows.proofs.are_rows_sound.Goals as goal
 
 pub loop-i-init : goal.loop-i-init

@@ -1,6 +1,6 @@
 -- `are_rows_sound` meets its contract: what is left is sound exactly when the whole is. Assumes nothing.
 use Prim.Native.Nat.{◌-◌}
-use Rattle.sound_rows.proofs.WalkLaws.{RowsWalked, starts, goes_on, breaks, ends}
+use Rattle.sound_rows.proofs.WalkLaws.{RowsWalked}
 use Rattle.sound_rows.proofs.are_rows_sound.Given as goal
 
 abbrev pub invariant-loop-i : goal.invariant-loop-i

@@ -1,6 +1,6 @@
 -- `are_blocks_sound` meets its contract: what is left of the blocks is the whole, and the services before them are in the index, while that has not
 -- enough. Assumes nothing.
-use Prim.Native.Nat.{◌-◌, ◌≤◌, ◌<◌}
+use Prim.Native.Nat.{◌≤◌, ◌<◌}
 use mathlib.Core.Path.{◌≡◌, refl, ap, sym, ◌∙◌}
 use mathlib.Core.Bool.{true}
 use native.Mathlib.Omega.{arith}
@@ -14,7 +14,7 @@ use Rattle.walks.proofs.TableLaws.{inside}
 use Rattle.sound_row_walks.specs.Walk.{used_in}
 use Rattle.sound_row_walks.proofs.UsedLaws.{room_ends, rows_end, row_used}
 use Rattle.sound_blocks.proofs.BlockLaws.{rises}
-use Rattle.sound_timetbls.proofs.ServiceLaws.{Going, going_first, all_gone, going_last, row_astray, block_unsound, service_at, service_came, going_on}
+use Rattle.sound_timetbls.proofs.ServiceLaws.{going_first, all_gone, going_last, row_astray, block_unsound, service_at, service_came, going_on}
 use Rattle.sound_timetbls.proofs.are_blocks_sound.Goals as goal
 
 pub loop-i-init : goal.loop-i-init

@@ -1,8 +1,8 @@
 -- `are_blocks_sound` meets its contract: what is left of the blocks is the whole, and the services before them are in the index, while that has not
 -- enough. Assumes nothing.
-use Prim.Native.Nat.{◌-◌, ◌≤◌, ◌<◌}
+use Prim.Native.Nat.{◌-◌}
 use Rattle.sound_row_walks.specs.Walk.{used_in}
-use Rattle.sound_timetbls.proofs.ServiceLaws.{Going, going_first, all_gone, going_last, row_astray, block_unsound, service_at, service_came, going_on}
+use Rattle.sound_timetbls.proofs.ServiceLaws.{Going}
 use Rattle.sound_timetbls.proofs.are_blocks_sound.Given as goal
 
 abbrev pub invariant-loop-i : goal.invariant-loop-i

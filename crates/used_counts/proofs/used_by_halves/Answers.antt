@@ -1,10 +1,9 @@
 -- `used_by_halves` meets its contract: the number of rows in use is from `low` to `high`. Assumes nothing.
-use Prim.Native.Nat.{◌-◌, ◌/◌}
 use native.Mathlib.Nat.{div-le_self}
 use native.Mathlib.Omega.{arith}
 use lib.ListN.{length}
 use Rattle.tables.proofs.Rows.{row_in_table}
-use Rattle.used_counts.proofs.HalfLaws.{Between, starts, ends, before_it, behind_it}
+use Rattle.used_counts.proofs.HalfLaws.{starts, ends, before_it, behind_it}
 use Rattle.used_counts.proofs.used_by_halves.Goals as goal
 
 pub loop-low-init : goal.loop-low-init

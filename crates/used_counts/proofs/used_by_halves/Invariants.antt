@@ -1,6 +1,6 @@
 -- `used_by_halves` meets its contract: the number of rows in use is from `low` to `high`. Assumes nothing.
-use Prim.Native.Nat.{◌-◌, ◌/◌}
-use Rattle.used_counts.proofs.HalfLaws.{Between, starts, ends, before_it, behind_it}
+use Prim.Native.Nat.{◌-◌}
+use Rattle.used_counts.proofs.HalfLaws.{Between}
 use Rattle.used_counts.proofs.used_by_halves.Given as goal
 
 abbrev pub invariant-loop-low : goal.invariant-loop-low
