@@ -31,7 +31,7 @@ use Rattle.iff_rules.specs.Load.{delivery_verdict, header_of, read_file, content
 use Rattle.iff_laws.specs.ScanLaws.{no_fault_all, unless_passes, verdict_fine}
 use Rattle.iff_laws.specs.TruthLaws.{and_both, says_itself, says_lt, says_where}
 use Rattle.iff_laws.specs.Meets.{Meets}
-use Rattle.iff_laws.specs.MeetsLaws.{fine_exactly}
+use Rattle.iff_laws.proofs.MeetsLaws.{fine_exactly}
 use Rattle.iff_desk.specs.Sound.{rows_of_tables, held_in, sound_rows, sound_table, sound}
 use Rattle.text.proofs.PackLaws.{Each as EachByte}
 use Rattle.tables.proofs.Each.{Each}
