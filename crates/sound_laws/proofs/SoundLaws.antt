@@ -39,14 +39,10 @@ use Rattle.tables.proofs.Rows.{Used}
 use Rattle.tables.proofs.Widths.{widths}
 use Rattle.tables.proofs.Filled.{rows_in_fill, fill_behind, zeros_all}
 use Rattle.file_laws.proofs.RowLaws.{Held, held_rows, held_groups, held_timetbls}
+pub use Rattle.sound_laws.proofs.FileBytes.{OfBytes}
 use Rattle.sound_laws.proofs.PassLaws.{all_hold}
 use Rattle.sound_laws.proofs.TextLaws.{lines_bytes, length_lines, some_lines}
 use Rattle.sound_laws.proofs.FileLaws.{FileFine, rows_sound, delivery_fine, file_fine, delivery_words_lem, delivery_formless}
-
--- WHAT IS ASSUMED: a file is made of bytes. A code is packed at 256 to a byte, and a number above 255 is an allowed byte to the definitions,
--- which have no other reason to say what the type of a lent `&[u8]` says.
-pub record OfBytes (F : PerFile (List ℕ)) : Type 0 where
-  pub below : (f : File) → EachByte 256 (of F f)
 
 -- ELEVEN VALUES: each is the function's, and where two functions agree they are the same
 module _ {A : Type 0} (v : File → A) where
