@@ -21,13 +21,13 @@ amend_there-requires c =
     let tables : PerFile (List ℕ) = let a = c.args in
     eleven a.delivery.now a.company.now a.country.now a.trnsmode.now a.timezone.now a.stations.now a.footnote.now
     a.timetbls.now a.changes.now a.xfootnote.now a.xchanges.now in
-    let are-sound : sound tables ≡ true = sym c.is_sound_by.ensures ∙ not-false _ c.if-not-is_sound_by.false-raw in
-    sound_there tables c.args.service c.args.block.now are-sound
+    let are_sound : sound tables ≡ true = sym c.is_sound_by.ensures ∙ not-false _ c.if-not-is_sound_by.false-raw in
+    sound_there tables c.args.service c.args.block.now are_sound
 
 pub returns : goal.returns
 returns c =
     let tables : PerFile (List ℕ) = let a = c.args in
     eleven a.delivery.now a.company.now a.country.now a.trnsmode.now a.timezone.now a.stations.now a.footnote.now
     a.timetbls.now a.changes.now a.xfootnote.now a.xchanges.now in
-    let are-sound : sound tables ≡ true = sym c.is_sound_by.ensures ∙ not-false _ c.if-not-is_sound_by.false-raw in
-    amended_sound tables c.args.service c.args.block.now are-sound _ _ c.amend_there.ensures
+    let are_sound : sound tables ≡ true = sym c.is_sound_by.ensures ∙ not-false _ c.if-not-is_sound_by.false-raw in
+    amended_sound tables c.args.service c.args.block.now are_sound _ _ c.amend_there.ensures

@@ -35,10 +35,10 @@ returns c =
 -- there are as many marks as there were
 pub shape_of-marks-in-Faulty : goal.shape_of-marks-in-Faulty
 shape_of-marks-in-Faulty c =
-    let marks-kept : length c.loop-at.marks ≡ length c.args.marks.now = c.loop-at.invariant.holding.marked.wide ∙ sym c.requires.holding.marked.wide in
-    c.add_block.auto.marks ∙ marks-kept
+    let marks_kept : length c.loop-at.marks ≡ length c.args.marks.now = c.loop-at.invariant.holding.marked.wide ∙ sym c.requires.holding.marked.wide in
+    c.add_block.auto.marks ∙ marks_kept
 
 pub shape_of-marks : goal.shape_of-marks
 shape_of-marks c =
-    let marks-kept : length c.loop-at.marks ≡ length c.args.marks.now = c.loop-at.invariant.holding.marked.wide ∙ sym c.requires.holding.marked.wide in
-    marks-kept
+    let marks_kept : length c.loop-at.marks ≡ length c.args.marks.now = c.loop-at.invariant.holding.marked.wide ∙ sym c.requires.holding.marked.wide in
+    marks_kept

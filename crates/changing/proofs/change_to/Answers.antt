@@ -19,8 +19,8 @@ rows_of : List ℕ → List ℕ → PerFile (List Row)
 rows_of d tt = eleven (rows_in Delivery d) [] [] [] [] [] [] (rows_in Timetbls tt) [] [] []
 
 -- a call's day and its service's rows, where the call is that of a side
-day-of : (n : ℕ) (x y : Call) → x ≡ y → y.day < n → x.day < n
-day-of n x y e h = rw e h
+day_of : (n : ℕ) (x y : Call) → x ≡ y → y.day < n → x.day < n
+day_of n x y e h = rw e h
 
 part_of : (t : List ℕ) (p : Part) (x y : Call) → x ≡ y → PartFor t y.service p → PartFor t x.service p
 part_of t p x y e h = rw e h
@@ -36,8 +36,8 @@ core_change-requires c =
     let x = c.call_of-a.ensures R refl in
     let y = c.call_of-b.ensures R refl in (
       c.requires.0,
-      day-of longest _ _ x d.0,
-      day-of longest _ _ y d.1,
+      day_of longest _ _ x d.0,
+      day_of longest _ _ y d.1,
       part_of a.timetbls.now a.a_part _ _ x c.requires.1,
       part_of a.timetbls.now c.find_part-b_part.result _ _ y c.find_part-b_part.ensures,
     )

@@ -16,15 +16,15 @@ returns-then-not-is_sound_by c =
 
 pub change_there-requires : goal.change_there-requires
 change_there-requires c =
-    let are-sound : sound (eleven c.args.delivery.now c.args.company.now c.args.country.now c.args.trnsmode.now c.args.timezone.now c.args.stations.now c.args.footnote.now c.args.timetbls.now c.args.changes.now c.args.xfootnote.now c.args.xchanges.now) ≡ true = sym c.is_sound_by.ensures ∙ not-false _ c.if-not-is_sound_by.false-raw in
+    let are_sound : sound (eleven c.args.delivery.now c.args.company.now c.args.country.now c.args.trnsmode.now c.args.timezone.now c.args.stations.now c.args.footnote.now c.args.timetbls.now c.args.changes.now c.args.xfootnote.now c.args.xchanges.now) ≡ true = sym c.is_sound_by.ensures ∙ not-false _ c.if-not-is_sound_by.false-raw in
     let a = c.args in
     let T = eleven a.delivery.now a.company.now a.country.now a.trnsmode.now a.timezone.now a.stations.now a.footnote.now a.timetbls.now a.changes.now a.xfootnote.now a.xchanges.now in
-    leant T are-sound
+    leant T are_sound
 
 pub returns : goal.returns
 unfolding change
 returns c =
-    let are-sound : sound (eleven c.args.delivery.now c.args.company.now c.args.country.now c.args.trnsmode.now c.args.timezone.now c.args.stations.now c.args.footnote.now c.args.timetbls.now c.args.changes.now c.args.xfootnote.now c.args.xchanges.now) ≡ true = sym c.is_sound_by.ensures ∙ not-false _ c.if-not-is_sound_by.false-raw in
+    let are_sound : sound (eleven c.args.delivery.now c.args.company.now c.args.country.now c.args.trnsmode.now c.args.timezone.now c.args.stations.now c.args.footnote.now c.args.timetbls.now c.args.changes.now c.args.xfootnote.now c.args.xchanges.now) ≡ true = sym c.is_sound_by.ensures ∙ not-false _ c.if-not-is_sound_by.false-raw in
     let a = c.args in
     let T = eleven a.delivery.now a.company.now a.country.now a.trnsmode.now a.timezone.now a.stations.now a.footnote.now a.timetbls.now a.changes.now a.xfootnote.now a.xchanges.now in
-    c.change_there.ensures (rows_of_tables T) (own_rows T) ∙ rw are-sound
+    c.change_there.ensures (rows_of_tables T) (own_rows T) ∙ rw are_sound

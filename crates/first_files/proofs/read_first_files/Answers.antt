@@ -13,58 +13,58 @@ read_delivery-v1-requires c =
 pub read_row_file-v2-requires : goal.read_row_file-v2-requires
 read_row_file-v2-requires c =
     let Right : Type 0 = fine c.args.v ≡ true in
-    let back-delivery : fine c.read_delivery-v1.result ≡ true → Right = λ g. delivery_back c.read_delivery-v1.ensures g in
-    λ g. (c.requires (back-delivery g)).company
+    let back_delivery : fine c.read_delivery-v1.result ≡ true → Right = λ g. delivery_back c.read_delivery-v1.ensures g in
+    λ g. (c.requires (back_delivery g)).company
 
 pub read_row_file-v4-requires : goal.read_row_file-v4-requires
 read_row_file-v4-requires c =
     let Right : Type 0 = fine c.args.v ≡ true in
-    let back-delivery : fine c.read_delivery-v1.result ≡ true → Right = λ g. delivery_back c.read_delivery-v1.ensures g in
-    let back-company : fine c.read_row_file-v2.result ≡ true → Right = λ g. back-delivery (rows_back c.read_row_file-v2.ensures g) in
-    let back-named : fine c.company_test-v3.result ≡ true → Right = λ g. back-company (back c.read_row_file-v2.result _ c.company_test-v3.ensures g) in
-    λ g. (c.requires (back-named g)).country
+    let back_delivery : fine c.read_delivery-v1.result ≡ true → Right = λ g. delivery_back c.read_delivery-v1.ensures g in
+    let back_company : fine c.read_row_file-v2.result ≡ true → Right = λ g. back_delivery (rows_back c.read_row_file-v2.ensures g) in
+    let back_named : fine c.company_test-v3.result ≡ true → Right = λ g. back_company (back c.read_row_file-v2.result _ c.company_test-v3.ensures g) in
+    λ g. (c.requires (back_named g)).country
 
 pub read_row_file-v5-requires : goal.read_row_file-v5-requires
 read_row_file-v5-requires c =
     let Right : Type 0 = fine c.args.v ≡ true in
-    let back-delivery : fine c.read_delivery-v1.result ≡ true → Right = λ g. delivery_back c.read_delivery-v1.ensures g in
-    let back-company : fine c.read_row_file-v2.result ≡ true → Right = λ g. back-delivery (rows_back c.read_row_file-v2.ensures g) in
-    let back-named : fine c.company_test-v3.result ≡ true → Right = λ g. back-company (back c.read_row_file-v2.result _ c.company_test-v3.ensures g) in
-    let back-country : fine c.read_row_file-v4.result ≡ true → Right = λ g. back-named (rows_back c.read_row_file-v4.ensures g) in
-    λ g. (c.requires (back-country g)).trnsmode
+    let back_delivery : fine c.read_delivery-v1.result ≡ true → Right = λ g. delivery_back c.read_delivery-v1.ensures g in
+    let back_company : fine c.read_row_file-v2.result ≡ true → Right = λ g. back_delivery (rows_back c.read_row_file-v2.ensures g) in
+    let back_named : fine c.company_test-v3.result ≡ true → Right = λ g. back_company (back c.read_row_file-v2.result _ c.company_test-v3.ensures g) in
+    let back_country : fine c.read_row_file-v4.result ≡ true → Right = λ g. back_named (rows_back c.read_row_file-v4.ensures g) in
+    λ g. (c.requires (back_country g)).trnsmode
 
 pub read_group_file-v6-requires : goal.read_group_file-v6-requires
 read_group_file-v6-requires c =
     let Right : Type 0 = fine c.args.v ≡ true in
-    let back-delivery : fine c.read_delivery-v1.result ≡ true → Right = λ g. delivery_back c.read_delivery-v1.ensures g in
-    let back-company : fine c.read_row_file-v2.result ≡ true → Right = λ g. back-delivery (rows_back c.read_row_file-v2.ensures g) in
-    let back-named : fine c.company_test-v3.result ≡ true → Right = λ g. back-company (back c.read_row_file-v2.result _ c.company_test-v3.ensures g) in
-    let back-country : fine c.read_row_file-v4.result ≡ true → Right = λ g. back-named (rows_back c.read_row_file-v4.ensures g) in
-    let back-trnsmode : fine c.read_row_file-v5.result ≡ true → Right = λ g. back-country (rows_back c.read_row_file-v5.ensures g) in
-    λ g. (c.requires (back-trnsmode g)).timezone
+    let back_delivery : fine c.read_delivery-v1.result ≡ true → Right = λ g. delivery_back c.read_delivery-v1.ensures g in
+    let back_company : fine c.read_row_file-v2.result ≡ true → Right = λ g. back_delivery (rows_back c.read_row_file-v2.ensures g) in
+    let back_named : fine c.company_test-v3.result ≡ true → Right = λ g. back_company (back c.read_row_file-v2.result _ c.company_test-v3.ensures g) in
+    let back_country : fine c.read_row_file-v4.result ≡ true → Right = λ g. back_named (rows_back c.read_row_file-v4.ensures g) in
+    let back_trnsmode : fine c.read_row_file-v5.result ≡ true → Right = λ g. back_country (rows_back c.read_row_file-v5.ensures g) in
+    λ g. (c.requires (back_trnsmode g)).timezone
 
 pub read_row_file-v7-requires : goal.read_row_file-v7-requires
 read_row_file-v7-requires c =
     let Right : Type 0 = fine c.args.v ≡ true in
-    let back-delivery : fine c.read_delivery-v1.result ≡ true → Right = λ g. delivery_back c.read_delivery-v1.ensures g in
-    let back-company : fine c.read_row_file-v2.result ≡ true → Right = λ g. back-delivery (rows_back c.read_row_file-v2.ensures g) in
-    let back-named : fine c.company_test-v3.result ≡ true → Right = λ g. back-company (back c.read_row_file-v2.result _ c.company_test-v3.ensures g) in
-    let back-country : fine c.read_row_file-v4.result ≡ true → Right = λ g. back-named (rows_back c.read_row_file-v4.ensures g) in
-    let back-trnsmode : fine c.read_row_file-v5.result ≡ true → Right = λ g. back-country (rows_back c.read_row_file-v5.ensures g) in
-    let back-timezone : fine c.read_group_file-v6.result ≡ true → Right = λ g. back-trnsmode (groups_back c.read_group_file-v6.ensures g) in
-    λ g. (c.requires (back-timezone g)).stations
+    let back_delivery : fine c.read_delivery-v1.result ≡ true → Right = λ g. delivery_back c.read_delivery-v1.ensures g in
+    let back_company : fine c.read_row_file-v2.result ≡ true → Right = λ g. back_delivery (rows_back c.read_row_file-v2.ensures g) in
+    let back_named : fine c.company_test-v3.result ≡ true → Right = λ g. back_company (back c.read_row_file-v2.result _ c.company_test-v3.ensures g) in
+    let back_country : fine c.read_row_file-v4.result ≡ true → Right = λ g. back_named (rows_back c.read_row_file-v4.ensures g) in
+    let back_trnsmode : fine c.read_row_file-v5.result ≡ true → Right = λ g. back_country (rows_back c.read_row_file-v5.ensures g) in
+    let back_timezone : fine c.read_group_file-v6.result ≡ true → Right = λ g. back_trnsmode (groups_back c.read_group_file-v6.ensures g) in
+    λ g. (c.requires (back_timezone g)).stations
 
 pub read_group_file-v8-requires : goal.read_group_file-v8-requires
 read_group_file-v8-requires c =
     let Right : Type 0 = fine c.args.v ≡ true in
-    let back-delivery : fine c.read_delivery-v1.result ≡ true → Right = λ g. delivery_back c.read_delivery-v1.ensures g in
-    let back-company : fine c.read_row_file-v2.result ≡ true → Right = λ g. back-delivery (rows_back c.read_row_file-v2.ensures g) in
-    let back-named : fine c.company_test-v3.result ≡ true → Right = λ g. back-company (back c.read_row_file-v2.result _ c.company_test-v3.ensures g) in
-    let back-country : fine c.read_row_file-v4.result ≡ true → Right = λ g. back-named (rows_back c.read_row_file-v4.ensures g) in
-    let back-trnsmode : fine c.read_row_file-v5.result ≡ true → Right = λ g. back-country (rows_back c.read_row_file-v5.ensures g) in
-    let back-timezone : fine c.read_group_file-v6.result ≡ true → Right = λ g. back-trnsmode (groups_back c.read_group_file-v6.ensures g) in
-    let back-stations : fine c.read_row_file-v7.result ≡ true → Right = λ g. back-timezone (rows_back c.read_row_file-v7.ensures g) in
-    λ g. (c.requires (back-stations g)).footnote
+    let back_delivery : fine c.read_delivery-v1.result ≡ true → Right = λ g. delivery_back c.read_delivery-v1.ensures g in
+    let back_company : fine c.read_row_file-v2.result ≡ true → Right = λ g. back_delivery (rows_back c.read_row_file-v2.ensures g) in
+    let back_named : fine c.company_test-v3.result ≡ true → Right = λ g. back_company (back c.read_row_file-v2.result _ c.company_test-v3.ensures g) in
+    let back_country : fine c.read_row_file-v4.result ≡ true → Right = λ g. back_named (rows_back c.read_row_file-v4.ensures g) in
+    let back_trnsmode : fine c.read_row_file-v5.result ≡ true → Right = λ g. back_country (rows_back c.read_row_file-v5.ensures g) in
+    let back_timezone : fine c.read_group_file-v6.result ≡ true → Right = λ g. back_trnsmode (groups_back c.read_group_file-v6.ensures g) in
+    let back_stations : fine c.read_row_file-v7.result ≡ true → Right = λ g. back_timezone (rows_back c.read_row_file-v7.ensures g) in
+    λ g. (c.requires (back_stations g)).footnote
 
 -- THE TABLES KEEP THEIR LENGTHS
 pub shape_of-t_delivery : goal.shape_of-t_delivery

@@ -13,24 +13,24 @@ read_timetbls-blocks-requires c =
 pub read_group_file-v2-requires : goal.read_group_file-v2-requires
 read_group_file-v2-requires c =
     let Right : Type 0 = fine c.args.v ≡ true in
-    let back-timetbls : fine c.read_timetbls-blocks.result.verdict ≡ true → Right = λ g. blocks_back c.read_timetbls-blocks.ensures.file g in
-    λ g. (c.requires (back-timetbls g)).changes
+    let back_timetbls : fine c.read_timetbls-blocks.result.verdict ≡ true → Right = λ g. blocks_back c.read_timetbls-blocks.ensures.file g in
+    λ g. (c.requires (back_timetbls g)).changes
 
 pub read_group_file-v3-requires : goal.read_group_file-v3-requires
 read_group_file-v3-requires c =
     let Right : Type 0 = fine c.args.v ≡ true in
-    let back-timetbls : fine c.read_timetbls-blocks.result.verdict ≡ true → Right = λ g. blocks_back c.read_timetbls-blocks.ensures.file g in
-    let back-changes : fine c.read_group_file-v2.result ≡ true → Right = λ g. back-timetbls (groups_back c.read_group_file-v2.ensures g) in
-    λ g. (c.requires (back-changes g)).xfootnote
+    let back_timetbls : fine c.read_timetbls-blocks.result.verdict ≡ true → Right = λ g. blocks_back c.read_timetbls-blocks.ensures.file g in
+    let back_changes : fine c.read_group_file-v2.result ≡ true → Right = λ g. back_timetbls (groups_back c.read_group_file-v2.ensures g) in
+    λ g. (c.requires (back_changes g)).xfootnote
 
 pub read_group_file-v4-requires : goal.read_group_file-v4-requires
 read_group_file-v4-requires c =
     let Right : Type 0 = fine c.args.v ≡ true in
-    let back-timetbls : fine c.read_timetbls-blocks.result.verdict ≡ true → Right = λ g. blocks_back c.read_timetbls-blocks.ensures.file g in
-    let back-changes : fine c.read_group_file-v2.result ≡ true → Right = λ g. back-timetbls (groups_back c.read_group_file-v2.ensures g) in
-    let back-xfootnote : fine c.read_group_file-v3.result ≡ true
-    → Right = λ g. back-changes (groups_back c.read_group_file-v3.ensures g) in
-    λ g. (c.requires (back-xfootnote g)).xchanges
+    let back_timetbls : fine c.read_timetbls-blocks.result.verdict ≡ true → Right = λ g. blocks_back c.read_timetbls-blocks.ensures.file g in
+    let back_changes : fine c.read_group_file-v2.result ≡ true → Right = λ g. back_timetbls (groups_back c.read_group_file-v2.ensures g) in
+    let back_xfootnote : fine c.read_group_file-v3.result ≡ true
+    → Right = λ g. back_changes (groups_back c.read_group_file-v3.ensures g) in
+    λ g. (c.requires (back_xfootnote g)).xchanges
 
 -- THE TABLES KEEP THEIR LENGTHS
 pub shape_of-t_timetbls : goal.shape_of-t_timetbls

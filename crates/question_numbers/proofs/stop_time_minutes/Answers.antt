@@ -6,15 +6,15 @@ use Rattle.question_numbers.proofs.stop_time_minutes.Goals as goal
 pub returns-in-Times : goal.returns-in-Times
 returns-in-Times c =
     let arrives = c.local_of-arrives in
-    let arrivesReference = c.reference_of-arrives_reference in
+    let arrives_reference = c.reference_of-arrives_reference in
     let departs = c.local_of-departs in
-    let departsReference = c.reference_of-departs_reference in
+    let departs_reference = c.reference_of-departs_reference in
     rw (to_z-of_z {w = w32} {z = arrives.result} (record { sfits = arrives.type_inv }))
-    (rw (to_z-of_z {w = w32} {z = arrivesReference.result} (record { sfits = arrivesReference.type_inv }))
+    (rw (to_z-of_z {w = w32} {z = arrives_reference.result} (record { sfits = arrives_reference.type_inv }))
     (rw (to_z-of_z {w = w32} {z = departs.result} (record { sfits = departs.type_inv }))
-    (rw (to_z-of_z {w = w32} {z = departsReference.result} (record { sfits = departsReference.type_inv }))
+    (rw (to_z-of_z {w = w32} {z = departs_reference.result} (record { sfits = departs_reference.type_inv }))
     (rw c.in-Times.is
-    (rw (arrives.ensures, arrivesReference.ensures, departs.ensures, departsReference.ensures))))))
+    (rw (arrives.ensures, arrives_reference.ensures, departs.ensures, departs_reference.ensures))))))
 
 pub returns-in-StopTimeRefused : goal.returns-in-StopTimeRefused
 returns-in-StopTimeRefused c = rw c.in-StopTimeRefused.is

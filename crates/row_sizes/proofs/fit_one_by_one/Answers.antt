@@ -22,33 +22,33 @@ word_at-tag-requires c =
 
 pub returns-then-left-n : goal.returns-then-left-n
 returns-then-left-n c =
-    let line-found : (let a = c.args in
+    let line_found : (let a = c.args in
     c.record_length-n.result ≡ line_length a.form (record_of a.file (tag (row_at (row_width a.file) a.t.now c.loop-i.i)))) = let a = c.args in
     line_of a.form a.file a.t.now _ c.loop-i.i _ _ _ c.row_width-w.ensures.is c.word_at-tag.ensures
     c.record_of.ensures c.record_length-n.ensures in
     let too_long : (c.loop-i.left < c.record_length-n.result + 2 →
     let a = c.args in
-    false ≡ leb (first_size + total (row_size a.form a.file) (rows_between (row_width a.file) a.t.now 1 a.used)) limit) = λ h. count_fails _ _ _ _ _ _ _ c.loop-i.invariant line-found c.loop-i-test.true h in
+    false ≡ leb (first_size + total (row_size a.form a.file) (rows_between (row_width a.file) a.t.now 1 a.used)) limit) = λ h. count_fails _ _ _ _ _ _ _ c.loop-i.invariant line_found c.loop-i-test.true h in
     too_long (omega (arith, c.if-left-n.true))
 
 pub returns-then-left-lt2 : goal.returns-then-left-lt2
 returns-then-left-lt2 c =
-    let line-found : (let a = c.args in
+    let line_found : (let a = c.args in
     c.record_length-n.result ≡ line_length a.form (record_of a.file (tag (row_at (row_width a.file) a.t.now c.loop-i.i)))) = let a = c.args in
     line_of a.form a.file a.t.now _ c.loop-i.i _ _ _ c.row_width-w.ensures.is c.word_at-tag.ensures
     c.record_of.ensures c.record_length-n.ensures in
     let too_long : (c.loop-i.left < c.record_length-n.result + 2 →
     let a = c.args in
-    false ≡ leb (first_size + total (row_size a.form a.file) (rows_between (row_width a.file) a.t.now 1 a.used)) limit) = λ h. count_fails _ _ _ _ _ _ _ c.loop-i.invariant line-found c.loop-i-test.true h in
+    false ≡ leb (first_size + total (row_size a.form a.file) (rows_between (row_width a.file) a.t.now 1 a.used)) limit) = λ h. count_fails _ _ _ _ _ _ _ c.loop-i.invariant line_found c.loop-i-test.true h in
     too_long (omega (arith, c.if-left-lt2.true, c.if-left-n.false))
 
 pub loop-i-preserved : goal.loop-i-preserved
 loop-i-preserved c =
-    let line-found : (let a = c.args in
+    let line_found : (let a = c.args in
     c.record_length-n.result ≡ line_length a.form (record_of a.file (tag (row_at (row_width a.file) a.t.now c.loop-i.i)))) = let a = c.args in
     line_of a.form a.file a.t.now _ c.loop-i.i _ _ _ c.row_width-w.ensures.is c.word_at-tag.ensures
     c.record_of.ensures c.record_length-n.ensures in
-    count_on _ _ _ _ _ _ _ c.loop-i.invariant line-found c.loop-i-test.true c.if-left-n.false c.if-left-lt2.false
+    count_on _ _ _ _ _ _ _ c.loop-i.invariant line_found c.loop-i-test.true c.if-left-n.false c.if-left-lt2.false
 
 pub loop-i-init : goal.loop-i-init
 loop-i-init c = count_begin _ _ _ _

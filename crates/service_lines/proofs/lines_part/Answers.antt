@@ -14,7 +14,7 @@ use Rattle.service_lines.proofs.lines_part.Goals as goal
 pub returns-in-From-seek_after : goal.returns-in-From-seek_after
 unfolding lines_part
 returns-in-From-seek_after c =
-    let is-part : lines_from c.args.text.now c.seek.result
+    let is_part : lines_from c.args.text.now c.seek.result
     ≡ lines_part c.args.text.now c.args.service = let a = c.args in
     ap (lines_from a.text.now) (c.seek.ensures.is ∙ ap (λ p. seek p 0 (lines a.text.now)) (wants_head a.service)) in
     let up_to : ◌≡◌ {A = Part}
@@ -28,18 +28,18 @@ returns-in-From-seek_after c =
     ap (λ o. record { test = Passes; from = at; to = end_at t o })
     (c.seek_after.ensures.is ∙ ap (λ p. seek_after p at (lines (drop at t))) wants_hash)
     ∙ ap (lines_from t) (sym c.in-From.is)
-    ∙ is-part in
-    let stop-in : (c.in-From.i ≤ c.in-From-seek_after.j)
+    ∙ is_part in
+    let stop_in : (c.in-From.i ≤ c.in-From-seek_after.j)
     × (c.in-From-seek_after.j + 1 ≤ length c.args.text.now) = rw c.in-From-seek_after.is at c.seek_after.ensures.within in
     let t = c.args.text.now in (
       ap (λ o. record { test = Passes; from = c.in-From.i; to = end_at t o }) (sym c.in-From-seek_after.is) ∙ up_to,
-      record { low = (stop-in).0; high = omega (arith, stop-in) },
+      record { low = (stop_in).0; high = omega (arith, stop_in) },
     )
 
 pub returns-in-NotFound-seek_after : goal.returns-in-NotFound-seek_after
 unfolding lines_part
 returns-in-NotFound-seek_after c =
-    let is-part : lines_from c.args.text.now c.seek.result
+    let is_part : lines_from c.args.text.now c.seek.result
     ≡ lines_part c.args.text.now c.args.service = let a = c.args in
     ap (lines_from a.text.now) (c.seek.ensures.is ∙ ap (λ p. seek p 0 (lines a.text.now)) (wants_head a.service)) in
     let up_to : ◌≡◌ {A = Part}
@@ -53,7 +53,7 @@ returns-in-NotFound-seek_after c =
     ap (λ o. record { test = Passes; from = at; to = end_at t o })
     (c.seek_after.ensures.is ∙ ap (λ p. seek_after p at (lines (drop at t))) wants_hash)
     ∙ ap (lines_from t) (sym c.in-From.is)
-    ∙ is-part in
+    ∙ is_part in
     let head_in : c.in-From.i + 9 ≤ length c.args.text.now = (rw c.in-From.is at c.seek.ensures.within).1 in
     let t = c.args.text.now in (
       ap (λ o. record { test = Passes; from = c.in-From.i; to = end_at t o }) (sym c.in-NotFound-seek_after.is) ∙ up_to,
@@ -63,11 +63,11 @@ returns-in-NotFound-seek_after c =
 pub returns-in-NotFound : goal.returns-in-NotFound
 unfolding lines_part
 returns-in-NotFound c =
-    let is-part : lines_from c.args.text.now c.seek.result
+    let is_part : lines_from c.args.text.now c.seek.result
     ≡ lines_part c.args.text.now c.args.service = let a = c.args in
     ap (lines_from a.text.now) (c.seek.ensures.is ∙ ap (λ p. seek p 0 (lines a.text.now)) (wants_head a.service)) in
     let none = c.no_part.ensures in (
-      none ∙ ap (lines_from c.args.text.now) (sym c.in-NotFound.is) ∙ is-part,
+      none ∙ ap (lines_from c.args.text.now) (sym c.in-NotFound.is) ∙ is_part,
       rw none (record { low = omega arith; high = omega arith }),
     )
 

@@ -40,12 +40,12 @@ pub returns-in_default : goal.returns-in_default
 returns-in_default c =
     let tables : PerFile (List ℕ) = let a = c.args in
     eleven a.delivery.now a.company.now a.country.now a.trnsmode.now a.timezone.now a.stations.now a.footnote.now a.timetbls.now a.changes.now a.xfootnote.now a.xchanges.now in
-    let timetbls-is : is_right c.judge_blocks.result
+    let timetbls_is : is_right c.judge_blocks.result
     ≡ timetbls_sound (context_of (rows_of_tables tables)) c.form_of-form.result c.args.first.now
     c.args.timetbls.now = c.judge_blocks.ensures.says (context_of (rows_of_tables tables)) (block_keys_lem tables c.args.used c.requires.0) in
     unsound tables _
     (not_timetbls tables c.args.first.now c.requires.1 _ c.form_of-form.ensures c.requires.3
-    (sym timetbls-is ∙ ap is_right c.in_default.is))
+    (sym timetbls_is ∙ ap is_right c.in_default.is))
 
 pub are_right_behind-requires : goal.are_right_behind-requires
 are_right_behind-requires c =
@@ -65,52 +65,52 @@ pub returns-then-not-names_at : goal.returns-then-not-names_at
 returns-then-not-names_at c =
     let tables : PerFile (List ℕ) = let a = c.args in
     eleven a.delivery.now a.company.now a.country.now a.trnsmode.now a.timezone.now a.stations.now a.footnote.now a.timetbls.now a.changes.now a.xfootnote.now a.xchanges.now in
-    let timetbls-is : is_right c.judge_blocks.result
+    let timetbls_is : is_right c.judge_blocks.result
     ≡ timetbls_sound (context_of (rows_of_tables tables)) c.form_of-form.result c.args.first.now
     c.args.timetbls.now = c.judge_blocks.ensures.says (context_of (rows_of_tables tables)) (block_keys_lem tables c.args.used c.requires.0) in
-    let company-is : c.names_at.result ≡ sound tables = let a = c.args in
+    let company_is : c.names_at.result ≡ sound tables = let a = c.args in
     c.names_at.ensures
     ∙ ap (has (own_company a.first.now)) (keys_counted (Rows Company) a.company.now a.used.company c.requires.0.company)
     ∙ by_company tables a.first.now c.requires.1 _ c.form_of-form.ensures c.requires.3
     (sym c.are_framed.ensures ∙ not-false _ c.if-not-are_framed.false-raw)
-    (sym timetbls-is ∙ ap is_right c.in-Right.is)
+    (sym timetbls_is ∙ ap is_right c.in-Right.is)
     (sym (c.are_right_behind.ensures (form_is tables a.first.now c.requires.1 _ c.form_of-form.ensures c.requires.3))
     ∙ not-false _ c.if-not-are_right_behind.false-raw) in
-    unsound tables _ (sym (not-true _ c.if-not-names_at.true-raw) ∙ company-is)
+    unsound tables _ (sym (not-true _ c.if-not-names_at.true-raw) ∙ company_is)
 
 pub returns-then-asked : goal.returns-then-asked
 returns-then-asked c =
     let tables : PerFile (List ℕ) = let a = c.args in
     eleven a.delivery.now a.company.now a.country.now a.trnsmode.now a.timezone.now a.stations.now a.footnote.now a.timetbls.now a.changes.now a.xfootnote.now a.xchanges.now in
-    let timetbls-is : is_right c.judge_blocks.result
+    let timetbls_is : is_right c.judge_blocks.result
     ≡ timetbls_sound (context_of (rows_of_tables tables)) c.form_of-form.result c.args.first.now
     c.args.timetbls.now = c.judge_blocks.ensures.says (context_of (rows_of_tables tables)) (block_keys_lem tables c.args.used c.requires.0) in
-    let company-is : c.names_at.result ≡ sound tables = let a = c.args in
+    let company_is : c.names_at.result ≡ sound tables = let a = c.args in
     c.names_at.ensures
     ∙ ap (has (own_company a.first.now)) (keys_counted (Rows Company) a.company.now a.used.company c.requires.0.company)
     ∙ by_company tables a.first.now c.requires.1 _ c.form_of-form.ensures c.requires.3
     (sym c.are_framed.ensures ∙ not-false _ c.if-not-are_framed.false-raw)
-    (sym timetbls-is ∙ ap is_right c.in-Right.is)
+    (sym timetbls_is ∙ ap is_right c.in-Right.is)
     (sym (c.are_right_behind.ensures (form_is tables a.first.now c.requires.1 _ c.form_of-form.ensures c.requires.3))
     ∙ not-false _ c.if-not-are_right_behind.false-raw) in
-    hinted tables _ (sym (not-false _ c.if-not-names_at.false-raw) ∙ company-is)
+    hinted tables _ (sym (not-false _ c.if-not-names_at.false-raw) ∙ company_is)
 
 pub returns : goal.returns
 returns c =
     let tables : PerFile (List ℕ) = let a = c.args in
     eleven a.delivery.now a.company.now a.country.now a.trnsmode.now a.timezone.now a.stations.now a.footnote.now a.timetbls.now a.changes.now a.xfootnote.now a.xchanges.now in
-    let timetbls-is : is_right c.judge_blocks.result
+    let timetbls_is : is_right c.judge_blocks.result
     ≡ timetbls_sound (context_of (rows_of_tables tables)) c.form_of-form.result c.args.first.now
     c.args.timetbls.now = c.judge_blocks.ensures.says (context_of (rows_of_tables tables)) (block_keys_lem tables c.args.used c.requires.0) in
-    let company-is : c.names_at.result ≡ sound tables = let a = c.args in
+    let company_is : c.names_at.result ≡ sound tables = let a = c.args in
     c.names_at.ensures
     ∙ ap (has (own_company a.first.now)) (keys_counted (Rows Company) a.company.now a.used.company c.requires.0.company)
     ∙ by_company tables a.first.now c.requires.1 _ c.form_of-form.ensures c.requires.3
     (sym c.are_framed.ensures ∙ not-false _ c.if-not-are_framed.false-raw)
-    (sym timetbls-is ∙ ap is_right c.in-Right.is)
+    (sym timetbls_is ∙ ap is_right c.in-Right.is)
     (sym (c.are_right_behind.ensures (form_is tables a.first.now c.requires.1 _ c.form_of-form.ensures c.requires.3))
     ∙ not-false _ c.if-not-are_right_behind.false-raw) in
-    indexed tables _ (sym (not-false _ c.if-not-names_at.false-raw) ∙ company-is) _ _ (c.index_in_rows-asked.ensures.1 c.if-asked.false)
+    indexed tables _ (sym (not-false _ c.if-not-names_at.false-raw) ∙ company_is) _ _ (c.index_in_rows-asked.ensures.1 c.if-asked.false)
     (c.judge_blocks.ensures.index _ _ c.in-Right.is)
 
 pub bounds-first-1 : goal.bounds-first-1

@@ -83,9 +83,9 @@ bounds-row-0 c =
 pub slice_bounds-is_shaped-end : goal.slice_bounds-is_shaped-end
 slice_bounds-is_shaped-end c =
     let wide : 6 ≤ length c.args.row.now = omega (arith, (widths c.args.file).wide, c.requires.0) in
-    let kept-words : 5 ≡ length (take 5 c.args.row.now) = let w = wide in
+    let kept_words : 5 ≡ length (take 5 c.args.row.now) = let w = wide in
     sym (length-take-le 5 c.args.row.now (omega arith)) in
-    kept-words
+    kept_words
 
 pub first_means-requires : goal.first_means-requires
 first_means-requires c =
@@ -95,9 +95,9 @@ first_means-requires c =
 pub slice_bounds-same_words-end : goal.slice_bounds-same_words-end
 slice_bounds-same_words-end c =
     let wide : 6 ≤ length c.args.row.now = omega (arith, (widths c.args.file).wide, c.requires.0) in
-    let kept-words : 5 ≡ length (take 5 c.args.row.now) = let w = wide in
+    let kept_words : 5 ≡ length (take 5 c.args.row.now) = let w = wide in
     sym (length-take-le 5 c.args.row.now (omega arith)) in
-    kept-words
+    kept_words
 
 pub slice_bounds-same_words-end-2 : goal.slice_bounds-same_words-end-2
 slice_bounds-same_words-end-2 c = sym (length-take-le 5 c.args.delivery.now c.requires.1)

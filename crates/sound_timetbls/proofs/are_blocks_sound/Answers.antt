@@ -27,17 +27,17 @@ word_at-tag-requires c = (omega arith, row_in_table (row_width Timetbls) c.loop-
 
 pub tell_services-requires : goal.tell_services-requires
 tell_services-requires c =
-    let ends-here : used_in c.args.t.now ≤ c.loop-i.i = rows_end c.args.t.now c.loop-i.i c.loop-i.invariant.left.high c.loop-i-test.true _ c.word_at-tag.ensures c.if-tag-eq0.true in
+    let ends_here : used_in c.args.t.now ≤ c.loop-i.i = rows_end c.args.t.now c.loop-i.i c.loop-i.invariant.left.high c.loop-i-test.true _ c.word_at-tag.ensures c.if-tag-eq0.true in
     let a = c.args in
-    all_gone _ _ _ _ _ a.t.now _ a.places.now c.loop-i.done c.loop-i.run c.loop-i.i c.loop-i.places c.loop-i.invariant ends-here
+    all_gone _ _ _ _ _ a.t.now _ a.places.now c.loop-i.done c.loop-i.run c.loop-i.i c.loop-i.places c.loop-i.invariant ends_here
     c.requires.1
 
 pub returns-then-tag-eq0 : goal.returns-then-tag-eq0
 returns-then-tag-eq0 c =
-    let ends-here : used_in c.args.t.now ≤ c.loop-i.i = rows_end c.args.t.now c.loop-i.i c.loop-i.invariant.left.high c.loop-i-test.true _ c.word_at-tag.ensures c.if-tag-eq0.true in
+    let ends_here : used_in c.args.t.now ≤ c.loop-i.i = rows_end c.args.t.now c.loop-i.i c.loop-i.invariant.left.high c.loop-i-test.true _ c.word_at-tag.ensures c.if-tag-eq0.true in
     let a = c.args in (
       going_last _ _ _ _ _ a.t.now _ a.places.now c.loop-i.done c.loop-i.run c.loop-i.i c.loop-i.places c.loop-i.invariant
-          ends-here _ _ c.tell_services.ensures.0,
+          ends_here _ _ c.tell_services.ensures.0,
       c.tell_services.ensures.1 ∙ c.loop-i.invariant.wide,
     )
 
@@ -61,10 +61,10 @@ pub returns-in_default : goal.returns-in_default
 returns-in_default c =
     let in_use_lem : c.loop-i.i < used_in c.args.t.now = row_used c.args.t.now c.loop-i.i c.loop-i.invariant.left.high c.loop-i-test.true _ c.word_at-tag.ensures
     c.if-tag-eq0.false in
-    let is-head : is_hash_row (row_at (row_width Timetbls) c.args.t.now c.loop-i.i) ≡ true = sym (ap (λ k. eqb k hash) c.word_at-tag.ensures) ∙ eq-eqb _ hash c.if-tag-ne-HASH.false in
+    let is_head : is_hash_row (row_at (row_width Timetbls) c.args.t.now c.loop-i.i) ≡ true = sym (ap (λ k. eqb k hash) c.word_at-tag.ensures) ∙ eq-eqb _ hash c.if-tag-ne-HASH.false in
     let a = c.args in (
       block_unsound _ _ _ _ _ a.t.now _ a.places.now c.loop-i.done c.loop-i.run c.loop-i.i c.loop-i.places c.loop-i.invariant in_use_lem
-          is-head _ c.test_block.ensures c.in_default.is,
+          is_head _ c.test_block.ensures c.in_default.is,
       c.loop-i.invariant.wide,
     )
 
@@ -80,10 +80,10 @@ pub returns-in_default-index_service : goal.returns-in_default-index_service
 returns-in_default-index_service c =
     let in_use_lem : c.loop-i.i < used_in c.args.t.now = row_used c.args.t.now c.loop-i.i c.loop-i.invariant.left.high c.loop-i-test.true _ c.word_at-tag.ensures
     c.if-tag-eq0.false in
-    let is-head : is_hash_row (row_at (row_width Timetbls) c.args.t.now c.loop-i.i) ≡ true = sym (ap (λ k. eqb k hash) c.word_at-tag.ensures) ∙ eq-eqb _ hash c.if-tag-ne-HASH.false in
+    let is_head : is_hash_row (row_at (row_width Timetbls) c.args.t.now c.loop-i.i) ≡ true = sym (ap (λ k. eqb k hash) c.word_at-tag.ensures) ∙ eq-eqb _ hash c.if-tag-ne-HASH.false in
     let a = c.args in
     service_came _ _ _ _ _ a.t.now _ a.places.now c.loop-i.done c.loop-i.run c.loop-i.i c.loop-i.places c.loop-i.invariant in_use_lem
-    is-head _ c.test_block.ensures _ c.in-Sound.is _ _ c.index_service.ensures c.in_default-index_service.is
+    is_head _ c.test_block.ensures _ c.in-Sound.is _ _ c.index_service.ensures c.in_default-index_service.is
 
 pub overflow_add-done : goal.overflow_add-done
 overflow_add-done c =
@@ -93,9 +93,9 @@ pub loop-i-smaller : goal.loop-i-smaller
 loop-i-smaller c =
     let in_use_lem : c.loop-i.i < used_in c.args.t.now = row_used c.args.t.now c.loop-i.i c.loop-i.invariant.left.high c.loop-i-test.true _ c.word_at-tag.ensures
     c.if-tag-eq0.false in
-    let is-head : is_hash_row (row_at (row_width Timetbls) c.args.t.now c.loop-i.i) ≡ true = sym (ap (λ k. eqb k hash) c.word_at-tag.ensures) ∙ eq-eqb _ hash c.if-tag-ne-HASH.false in
+    let is_head : is_hash_row (row_at (row_width Timetbls) c.args.t.now c.loop-i.i) ≡ true = sym (ap (λ k. eqb k hash) c.word_at-tag.ensures) ∙ eq-eqb _ hash c.if-tag-ne-HASH.false in
     let a = c.args in
-    let more = rises _ _ _ _ _ a.t.now _ c.loop-i.i c.loop-i.invariant.left in_use_lem is-head _ c.test_block.ensures _
+    let more = rises _ _ _ _ _ a.t.now _ c.loop-i.i c.loop-i.invariant.left in_use_lem is_head _ c.test_block.ensures _
     c.in-Sound.is in
     omega (arith, more, c.loop-i-test.true)
 
@@ -103,23 +103,23 @@ pub loop-i-preserved : goal.loop-i-preserved
 loop-i-preserved c =
     let in_use_lem : c.loop-i.i < used_in c.args.t.now = row_used c.args.t.now c.loop-i.i c.loop-i.invariant.left.high c.loop-i-test.true _ c.word_at-tag.ensures
     c.if-tag-eq0.false in
-    let is-head : is_hash_row (row_at (row_width Timetbls) c.args.t.now c.loop-i.i) ≡ true = sym (ap (λ k. eqb k hash) c.word_at-tag.ensures) ∙ eq-eqb _ hash c.if-tag-ne-HASH.false in
+    let is_head : is_hash_row (row_at (row_width Timetbls) c.args.t.now c.loop-i.i) ≡ true = sym (ap (λ k. eqb k hash) c.word_at-tag.ensures) ∙ eq-eqb _ hash c.if-tag-ne-HASH.false in
     let a = c.args in
     going_on _ _ _ _ _ a.t.now _ a.places.now c.loop-i.done c.loop-i.run c.loop-i.i c.loop-i.places c.loop-i.invariant in_use_lem
-    is-head _ c.test_block.ensures _ c.in-Sound.is _ _ c.index_service.ensures _ c.in-Goes.is
+    is_head _ c.test_block.ensures _ c.in-Sound.is _ _ c.index_service.ensures _ c.in-Goes.is
 
 pub tell_services-requires-2 : goal.tell_services-requires-2
 tell_services-requires-2 c =
-    let ends-with-room : used_in c.args.t.now ≤ c.loop-i.i = room_ends c.args.t.now c.loop-i.i c.loop-i.invariant.left.high c.loop-i-test.false in
+    let ends_with_room : used_in c.args.t.now ≤ c.loop-i.i = room_ends c.args.t.now c.loop-i.i c.loop-i.invariant.left.high c.loop-i-test.false in
     let a = c.args in
-    all_gone _ _ _ _ _ a.t.now _ a.places.now c.loop-i.done c.loop-i.run c.loop-i.i c.loop-i.places c.loop-i.invariant ends-with-room
+    all_gone _ _ _ _ _ a.t.now _ a.places.now c.loop-i.done c.loop-i.run c.loop-i.i c.loop-i.places c.loop-i.invariant ends_with_room
     c.requires.1
 
 pub returns : goal.returns
 returns c =
-    let ends-with-room : used_in c.args.t.now ≤ c.loop-i.i = room_ends c.args.t.now c.loop-i.i c.loop-i.invariant.left.high c.loop-i-test.false in
+    let ends_with_room : used_in c.args.t.now ≤ c.loop-i.i = room_ends c.args.t.now c.loop-i.i c.loop-i.invariant.left.high c.loop-i-test.false in
     let a = c.args in (
       going_last _ _ _ _ _ a.t.now _ a.places.now c.loop-i.done c.loop-i.run c.loop-i.i c.loop-i.places c.loop-i.invariant
-          ends-with-room _ _ c.tell_services-2.ensures.0,
+          ends_with_room _ _ c.tell_services-2.ensures.0,
       c.tell_services-2.ensures.1 ∙ c.loop-i.invariant.wide,
     )
