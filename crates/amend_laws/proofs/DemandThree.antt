@@ -26,19 +26,12 @@ use Rattle.iff_desk.specs.Amend.{place_of, edited_length, edited_lines, amend_ve
 use Rattle.text.proofs.PackLaws.{Each as EachByte}
 use Rattle.tables.proofs.Filled.{length_fill}
 use Rattle.sound_laws.proofs.SoundLaws.{OfBytes, own_form, timetbls_read, rows_are, used, fit, table_is, tables_rows, faultless_sound, meets}
+pub use Rattle.amend_laws.proofs.EditedFiles.{edited_files, loaded}
 use Rattle.amend_laws.proofs.OtherTables.{with_timetbls, with_each}
 use Rattle.amend_laws.proofs.Accepted.{fine_is}
 use Rattle.amend_laws.proofs.EditedVerdicts.{past_fine}
 use Rattle.amend_laws.proofs.EditedFile.{Told, told, still_bytes}
 use Rattle.amend_laws.proofs.EditedLoad.{context_same, load_with, tables_with}
-
--- the files with the edited TIMETBLS, in the delivery's own form
-abbrev pub edited_files : PerFile (List ℕ) → ℕ → List ℕ → PerFile (List ℕ)
-edited_files F s b = with_timetbls F (edited (context_of (rows_of_files F)).form F.timetbls s b)
-
--- the tables that a load leaves
-abbrev pub loaded : PerFile (List ℕ) → PerFile ℕ → PerFile (List ℕ)
-loaded F R = per_file (λ f. load_table f F R)
 
 -- an amendment's verdict, of tables with some rows, sound or not, and room for so many words
 abbrev verdict_of : PerFile (List Row) → Bool → ℕ → ℕ → List ℕ → Verdict

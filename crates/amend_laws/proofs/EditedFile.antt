@@ -23,7 +23,7 @@ use Rattle.iff_rules.specs.Rows.{blocks_rows, blocks_of, as_block, first_row_of,
 use Rattle.iff_rules.specs.Load.{first_line_test, stray_verdict, block_verdict, service_of, timetbls_verdict, file_verdict}
 use Rattle.iff_laws.specs.ScanLaws.{verdict_fine, first_one, cons_fine}
 use Rattle.iff_laws.specs.TruthLaws.{says_any, any_map}
-use Rattle.iff_laws.specs.LineLaws.{line_passes}
+use Rattle.iff_laws.proofs.LineLaws.{line_passes}
 use Rattle.iff_laws.specs.Places.{no_group}
 use Rattle.iff_desk.specs.Parts.{is_one_block}
 use Rattle.iff_desk.specs.Amend.{place_of, edited_length, edited_lines, amended_rows, edited}

@@ -11,5 +11,7 @@ pub mod EditedVerdicts
 pub mod EditedBlocks
 pub mod EditedFile
 pub mod EditedLoad
+pub mod EditedFiles
+pub mod Amendments
 pub mod DemandThree
 pub mod ManyAmendments

@@ -26,6 +26,7 @@ use native.Mathlib.Omega.{arith}
 use Rattle.sound_laws.proofs.SoundLaws.{OfBytes}
 use Rattle.amend_laws.proofs.OtherTables.{with_timetbls}
 use Rattle.amend_laws.proofs.Accepted.{fine_is}
+pub use Rattle.amend_laws.proofs.Amendments.{Amendment, tables_after, files_where, files_after}
 use Rattle.amend_laws.proofs.DemandThree.{edited_files, loaded, held_same, still_fine, same_tables, edited_bytes_lem, demand_three}
 
 -- WHAT AN AMENDMENT LEAVES: a refused one every table as it stood
@@ -52,21 +53,6 @@ accepted_asked T s b e = (
 )
 
 -- ONE AFTER THE OTHER: the tables after some, and the files that they stand for
-pub record Amendment : Type 0 where
-  pub service : ℕ
-  pub block : List ℕ
-
-abbrev pub tables_after : PerFile (List ℕ) → Amendment → PerFile (List ℕ)
-tables_after T a = with_timetbls T (amend_timetbls T a.service a.block)
-
--- edited where it is accepted, as they were where it is refused
-abbrev pub files_where : Bool → PerFile (List ℕ) → Amendment → PerFile (List ℕ)
-files_where true F a = edited_files F a.service a.block
-files_where false F a = F
-
-abbrev pub files_after : PerFile (List ℕ) → PerFile (List ℕ) → Amendment → PerFile (List ℕ)
-files_after T F a = files_where (fine (amend_verdict T a.service a.block)) F a
-
 unfoldable pub tables_after_all : PerFile (List ℕ) → List Amendment → PerFile (List ℕ)
 tables_after_all T [] = T
 tables_after_all T (a ∷ more) = tables_after_all (tables_after T a) more

@@ -25,7 +25,7 @@ use Rattle.iff_rules.specs.Rows.{row_of, block_row, block_rows_from, block_rows,
 use Rattle.iff_rules.specs.Load.{block_test, block_start, block_next, block_verdict, service_of}
 use Rattle.iff_laws.specs.ScanLaws.{cons_fine, verdict_fine}
 use Rattle.iff_laws.specs.TruthLaws.{both}
-use Rattle.iff_laws.specs.LineLaws.{line_passes}
+use Rattle.iff_laws.proofs.LineLaws.{line_passes}
 use Rattle.iff_desk.specs.Parts.{is_head, inner, is_one_block}
 use Rattle.tables.proofs.Each.{Each}
 use Rattle.tables.proofs.Rows.{Used}

@@ -128,22 +128,20 @@ module _ (T : PerFile (List ℕ)) (s : ℕ) (b : List ℕ) where
         ∙ sym (kept_skips (naming x) old (take k blocks_were) (drop (suc k) blocks_were) (ne_eqb _ _ (λ q. n (sym old_names ∙ q))))
         ∙ ap (kept (naming x)) (sym (split_at blocks_were k new place_is_inside)))
 
-    faultless_keeps : OthersKept
-    faultless_keeps =
-        record {
-          long = same_length T s b e;
-          rows = rows_are T s b e;
-          inside = place_is_inside;
-          was_its_own = old_names;
-          is_its_own = new_names;
-          blocks = blocks_now;
-          head = ap (front is_hash_row) (rows_are T s b e) ∙ amended_front (context_in T).form (place_in T s) (rows_were T) b a.is_one.opens;
-          services = services_now;
-          context = same_context (rows_of_tables T) rows_now services_now;
-          own = own_now;
-          others = others_now;
-        }
-
 -- THE LAW
 pub others_kept : (T : PerFile (List ℕ)) (s : ℕ) (b : List ℕ) → fine (amend_verdict T s b) ≡ true → OthersKept T s b
-others_kept T s b e = faultless_keeps T s b (fine_is (amend_verdict T s b) e)
+others_kept T s b e =
+    let x : amend_verdict T s b ≡ Fine = fine_is (amend_verdict T s b) e in
+    record {
+      long = same_length T s b x;
+      rows = rows_are T s b x;
+      inside = place_is_inside T s b x;
+      was_its_own = old_names T s b x;
+      is_its_own = new_names T s b x;
+      blocks = blocks_now T s b x;
+      head = ap (front is_hash_row) (rows_are T s b x) ∙ amended_front (context_in T).form (place_in T s) (rows_were T) b (accepted T s b x).is_one.opens;
+      services = services_now T s b x;
+      context = same_context (rows_of_tables T) (rows_now T s b) (services_now T s b x);
+      own = own_now T s b x;
+      others = others_now T s b x;
+    }

@@ -2,7 +2,7 @@
 use Prim.Native.Nat.{ℕ, zero, suc, ◌+◌, ◌-◌, ◌≤◌, ◌<◌}
 use mathlib.Core.Path.{◌≡◌, refl, ap, sym, ◌∙◌}
 use mathlib.Core.List.{List, [], ◌∷◌, ◌++◌, append_assoc}
-use mathlib.Core.Bool.{Bool, true, false}
+use mathlib.Core.Bool.{false}
 use native.Mathlib.Nat.{add-zero}
 use native.Mathlib.Omega.{arith}
 use lib.Dec.{eqb}
@@ -11,13 +11,13 @@ use lib.Seq.{take-add, take-suc, take-nil, drop-cons, drop-drop, get_or-take, ge
 use borrow.Author.Tests.{ne_eqb}
 use Rattle.iff.specs.Bytes.{hash}
 use Rattle.iff.specs.Lists.{front, any}
-use Rattle.iff.specs.Lines.{Line, lines, is_hash, letter, width, first_line}
+use Rattle.iff.specs.Lines.{Line, lines, is_hash, width, first_line}
 use Rattle.text.proofs.LineLaws.{lines_step, lines_end}
 use Rattle.text.proofs.CutLaws.{Closed, closed_end}
 use Rattle.block_ends.specs.Blocks.{part, Clean, NextBlock}
 use Rattle.block_ends.specs.Hops.{Ending, Hops, Hopped}
 use Rattle.block_ends.proofs.GroupLaws.{any_append, front_open, front_nil, behind_first}
-use Rattle.block_ends.proofs.PartLaws.{Seeking, seek_end}
+use Rattle.block_ends.proofs.PartLaws.{seek_end}
 
 -- A PART THAT ENDS IN CR LF
 module _ (t : List ℕ) (at to : ℕ) (e : Ending t at to) where

@@ -28,7 +28,7 @@ use Rattle.iff.specs.declared.Stand.TheVariants.{Start, Hash, Percent, Dash, Amp
 use Rattle.iff.specs.declared.Next.{Next}
 use Rattle.iff.specs.declared.Next.TheVariants.{Goes, NotHere}
 use Rattle.iff.specs.declared.InBlock.{InBlock}
-use Rattle.iff_rules.specs.Order.{LineTests, line_test, known_in_block, to, goes, is_goes, stand_after, is_stop}
+use Rattle.iff_rules.specs.Order.{LineTests, line_test, known_in_block, goes, is_goes, stand_after, is_stop}
 use Rattle.iff_rules.specs.Rows.{row_of, Context}
 use Rattle.iff_rules.specs.Meaning.{most_stops, block_meaning}
 use Rattle.iff_rules.specs.Unique.{fresh_key}

@@ -1,24 +1,22 @@
 -- Laws of a block's rows put into a table one after the other. Assumes nothing.
 use Prim.Native.Nat.{ℕ, suc, ◌+◌, ◌-◌, ◌*◌, ◌≤◌}
 use mathlib.Core.Path.{◌≡◌, refl, ap, sym, ◌∙◌}
-use mathlib.Core.List.{List, [], ◌∷◌, ◌++◌, append_assoc}
+use mathlib.Core.List.{List, ◌++◌}
 use mathlib.Core.Bool.{true}
 use native.Mathlib.Nat.{add-zero}
 use native.Mathlib.Numerals.{add-one}
 use native.Mathlib.Omega.{arith}
-use lib.ListN.{length, take, drop, take-append-drop}
-use lib.Seq.{drop-drop}
+use lib.ListN.{length, take, drop}
 use Rattle.iff.specs.Lists.{all, members}
 use Rattle.iff.specs.Lines.{lines}
 use Rattle.iff.specs.Tables.{Row, row_width, joined, put_row}
 use Rattle.iff.specs.declared.Form.{Form}
 use Rattle.iff.specs.declared.File.TheVariants.{Timetbls}
-use Rattle.iff_rules.specs.Rows.{block_row, block_rows_from, block_rows, as_block}
+use Rattle.iff_rules.specs.Rows.{stops_in, block_row, block_rows_from, block_rows, as_block}
 use Rattle.text.specs.declared.LineSpan.{LineSpan}
 use Rattle.text.specs.Spans.{span_line, LineAt}
 use Rattle.text.proofs.LineLaws.{lines_end}
 use Rattle.text.proofs.PictureLaws.{and_left, and_right}
-use Rattle.tables.proofs.Put.{length_put}
 use Rattle.tables.proofs.Puts.{used_wide, put_rows, rows_put}
 use Rattle.legs.proofs.RowLaws.{block_lines_lem}
 use Rattle.records.specs.Layouts.{legible}
@@ -98,7 +96,10 @@ write_end form b was is k n start at done p x h =
     let c = p.whole.counted in
     let v = p.whole.stops in
     let m : members (as_block b) ≡ lines b = block_lines_lem b p.whole.some in
-    let r : block_rows_from form n k 1 (lines b) ≡ block_rows form (as_block b) = rw (← m, c, v) in
+    let r : block_rows_from form n k 1 (lines b) ≡ block_rows form (as_block b) =
+    ap (block_rows_from form n k 1) (sym m)
+    ∙ (ap (λ (i : ℕ). block_rows_from form i k 1 (members (as_block b))) v
+    ∙ ap (λ (i : ℕ). block_rows_from form (stops_in (as_block b)) i 1 (members (as_block b))) c) in
     let q : length (block_rows_from form n k 1 (lines b)) ≡ k = rows_count form n k 1 (lines b) ∙ whole_count form b k n p.whole in
     let z : put_rows w is (start + done) (block_rows_from form n k (suc done) (lines (drop at b))) ≡ is = rw (lines_end b at h) in
     let rows = block_rows_from form n k 1 (lines b) in

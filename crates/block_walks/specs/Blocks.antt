@@ -1,7 +1,7 @@
 -- What the walk over the blocks of TIMETBLS asks and tells.
 use Rattle.std.specs.Prelude.{ℕ, ◌+◌, ◌-◌, ◌*◌, ◌≤◌, ◌≡◌, List, [], ◌∷◌, ◌++◌, Bool, true, length, take, drop, replicate}
 use Rattle.iff.specs.Lists.{front}
-use Rattle.iff.specs.Refusals.{verdict_at, or_else, scan, fine}
+use Rattle.iff.specs.Refusals.{verdict_at, or_else, scan}
 use Rattle.iff.specs.Lines.{Line, lines, is_hash}
 use Rattle.iff.specs.Tables.{Row, row_width, rows_in, fill, rising}
 use Rattle.iff.specs.declared.File.TheVariants.{Timetbls}
@@ -23,7 +23,7 @@ use Rattle.block_ends.specs.Blocks.{Clean}
 use Rattle.block_puts.specs.Puts.{Holding, new_verdict}
 use Rattle.reading.specs.declared.RowsRead.{RowsRead}
 use Rattle.reading.specs.declared.RowsRead.TheVariants.{AllRead, Stopped}
-use Rattle.reading.specs.Reading.{Begun, RowsDone, FileRead, rows_verdict, rises_of}
+use Rattle.reading.specs.Reading.{Begun, RowsDone, rows_verdict, rises_of}
 use Rattle.block_walks.specs.declared.Walk.{Walk}
 use Rattle.block_walks.specs.declared.BlocksPut.{BlocksPut}
 use Rattle.block_walks.specs.declared.BlocksPut.TheVariants.{All, Refused}

@@ -1,6 +1,6 @@
 -- What a file's verdict asks of the other files, and no more: so a table that is not yet read may stand for it. Assumes nothing.
 use Prim.Native.Nat.{ℕ}
-use mathlib.Core.Path.{◌≡◌, refl, ap, sym, ◌∙◌}
+use mathlib.Core.Path.{◌≡◌, refl, sym, ◌∙◌}
 use mathlib.Core.List.{List, [], ◌∷◌}
 use mathlib.Core.Bool.{true}
 use Rattle.iff.specs.Refusals.{or_else, fine}

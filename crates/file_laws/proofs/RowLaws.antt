@@ -7,8 +7,8 @@ use native.Mathlib.Nat.{le-div_iff_mul-le}
 use native.Mathlib.Omega.{arith}
 use lib.Dec.{eqb}
 use lib.ListN.{length, length-append}
-use Rattle.iff.specs.Lists.{Group, front, groups, members, same}
-use Rattle.iff.specs.Refusals.{verdict_at, scan}
+use Rattle.iff.specs.Lists.{Group, front, groups, members}
+use Rattle.iff.specs.Refusals.{scan}
 use Rattle.iff.specs.Lines.{Line, letter, is_hash}
 use Rattle.iff.specs.Values.{words, field_words}
 use Rattle.iff.specs.Tables.{row_width, padded, fill, keys_of}
@@ -23,10 +23,10 @@ use Rattle.iff.specs.declared.Verdict.{Verdict}
 use Rattle.iff.specs.declared.Verdict.TheVariants.{Fine}
 use Rattle.iff_rules.specs.Order.{known_in_group, known_in_block, tag_of}
 use Rattle.iff_rules.specs.Rows.{row_of, block_rows_from, block_rows, blocks_rows, blocks_of, stops_in, lines_in, first_row_of, later_rows, rows_of_lines, Context}
-use Rattle.iff_rules.specs.Load.{first_line_test, group_test, group_verdict, groups_verdict, block_test, block_verdict, timetbls_verdict, stray_verdict, file_verdict, Between, block_start}
+use Rattle.iff_rules.specs.Load.{group_test, group_verdict, groups_verdict, block_test, block_verdict, timetbls_verdict, stray_verdict, file_verdict, Between, block_start}
 use Rattle.iff_laws.specs.ScanLaws.{or_fine, cons_fine, verdict_fine}
-use Rattle.iff_laws.specs.LineLaws.{line_passes}
-use Rattle.iff_laws.specs.MeetsLaws.{stray_none}
+use Rattle.iff_laws.proofs.LineLaws.{line_passes}
+use Rattle.iff_laws.proofs.MeetsLaws.{stray_none}
 use Rattle.tables.proofs.Each.{Each, each_append}
 use Rattle.tables.proofs.Rows.{Used}
 use Rattle.tables.proofs.Widths.{widths}

@@ -1,17 +1,17 @@
 -- A line of a file without record letters: its row's tests by what the code found. Assumes nothing.
-use Prim.Native.Nat.{ℕ, suc, ◌+◌, ◌-◌, ◌*◌, ◌≤◌, ◌<◌}
-use mathlib.Core.Path.{◌≡◌, refl, ap, sym, ◌∙◌}
-use mathlib.Core.List.{List, [], ◌∷◌, map}
-use mathlib.Core.Bool.{Bool, true, false, not, cond, false≢true}
+use Prim.Native.Nat.{ℕ, suc, ◌+◌, ◌*◌, ◌≤◌}
+use mathlib.Core.Path.{◌≡◌, refl, sym, ◌∙◌}
+use mathlib.Core.List.{List, [], ◌∷◌}
+use mathlib.Core.Bool.{Bool, true, not}
 use native.Mathlib.Omega.{arith}
 use lib.Dec.{eqb}
-use lib.ListN.{length, get_or}
+use lib.ListN.{length}
 use Rattle.iff.specs.Lists.{has}
-use Rattle.iff.specs.Refusals.{or_test, first_test, unless}
+use Rattle.iff.specs.Refusals.{first_test, unless}
 use Rattle.iff.specs.Lines.{Line, lines, letter}
-use Rattle.iff.specs.Tables.{Row, word, tag, letterless, row_width, key_tag, key_word, keys_of, padded, put_row}
+use Rattle.iff.specs.Tables.{Row, word, tag, letterless, row_width, key_tag, key_word, padded, put_row}
 use Rattle.iff.specs.declared.RowFile.{RowFile}
-use Rattle.iff.specs.declared.File.TheVariants.{Rows, Groups}
+use Rattle.iff.specs.declared.File.TheVariants.{Rows}
 use Rattle.iff.specs.declared.Form.{Form}
 use Rattle.iff.specs.declared.Reason.TheVariants.{Value, Duplicate, Reference}
 use Rattle.iff.specs.declared.Test.{Test}

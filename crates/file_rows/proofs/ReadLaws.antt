@@ -1,31 +1,28 @@
 -- The rows of a file without record letters, line by line: what is left to read is the whole. Assumes nothing.
 use Prim.Native.Nat.{ℕ, suc, ◌+◌, ◌-◌, ◌*◌, ◌^◌, ◌≤◌, ◌<◌}
 use mathlib.Core.Path.{◌≡◌, refl, ap, sym, ◌∙◌}
-use mathlib.Core.List.{List, [], ◌∷◌, ◌++◌, map, map-append, append-nil}
-use mathlib.Core.Bool.{Bool, true, false, ◌&&◌, false≢true}
-use native.Mathlib.Nat.{suc-mul, one-mul, mul-le-mul_right}
+use mathlib.Core.List.{List, [], ◌∷◌, ◌++◌, map, map-append}
+use mathlib.Core.Bool.{Bool, true, false, false≢true}
+use native.Mathlib.Nat.{suc-mul, mul-le-mul_right}
 use native.Mathlib.Numerals.{add-one}
 use native.Mathlib.Omega.{arith}
-use lib.Dec.{eqb}
 use lib.ListN.{length, take, drop, length-drop, length-map}
-use lib.Seq.{length-take-le, take_all, take_at}
+use lib.Seq.{length-take-le, take_all}
 use Rattle.iff.specs.Lists.{kept}
 use Rattle.iff.specs.Files.{of, eleven}
 use Rattle.iff.specs.Refusals.{or_test, unless, or_else, verdict_at, scan, after}
 use Rattle.iff.specs.Lines.{Line, lines, letter}
 use Rattle.iff.specs.Columns.{fields_of, laid}
 use Rattle.iff.specs.Values.{readable}
-use Rattle.iff.specs.Tables.{Row, word, tag, row_width, key_tag, key_word, keys_of, rising, fill, joined, put_row}
+use Rattle.iff.specs.Tables.{Row, word, row_width, key_word, keys_of, fill, put_row}
 use Rattle.iff.specs.declared.RowFile.{RowFile}
-use Rattle.iff.specs.declared.File.TheVariants.{Rows, Groups}
+use Rattle.iff.specs.declared.File.TheVariants.{Rows}
 use Rattle.iff.specs.declared.Form.{Form}
 use Rattle.iff.specs.declared.Reason.{Reason}
 use Rattle.iff.specs.declared.Reason.TheVariants.{Layout, Value}
 use Rattle.iff.specs.declared.Place.TheVariants.{At}
-use Rattle.iff.specs.declared.Test.{Test}
-use Rattle.iff.specs.declared.Test.TheVariants.{Passes, Fails}
+use Rattle.iff.specs.declared.Test.TheVariants.{Passes}
 use Rattle.iff.specs.declared.Verdict.{Verdict}
-use Rattle.iff.specs.declared.Verdict.TheVariants.{Fine, Fault}
 use Rattle.iff_rules.specs.Rows.{row_of, Context}
 use Rattle.iff_rules.specs.Load.{plain_test, plain_verdict}
 use Rattle.text.specs.declared.LineSpan.{LineSpan}
@@ -46,7 +43,6 @@ use Rattle.keys.proofs.Fills.{keys_in_fill, keys_next}
 use Rattle.text_numbers.specs.Numbers.{numbers_of}
 use Rattle.text_numbers.proofs.NumberLaws.{numbers_next}
 use Rattle.row_marks.specs.Remembered.{spread_of, Remembers, LineMarked}
-use Rattle.reading.specs.Reading.{Begun}
 use Rattle.reading.specs.declared.RowsRead.TheVariants.{AllRead, Stopped}
 use Rattle.file_rows.specs.Tests.{plain_row_test}
 use Rattle.file_rows.specs.Plain.{first_in, PlainBegun, RowsOf, PlainLine, Earlier, LineAdded, test_of, kept_key}

@@ -1,21 +1,16 @@
 -- A whole file of rows. Assumes nothing.
 use Prim.Native.Nat.{ℕ}
-use mathlib.Core.Path.{◌≡◌, refl, ap, sym, ◌∙◌}
-use mathlib.Core.List.{List, [], ◌∷◌, ◌++◌, map, append-nil}
-use mathlib.Core.Bool.{Bool, true, false, false≢true}
-use native.Mathlib.Omega.{arith}
-use lib.ListN.{length, get_or, take, drop}
+use mathlib.Core.Path.{◌≡◌, ap, ◌∙◌}
+use mathlib.Core.List.{List, [], ◌∷◌, append-nil}
+use lib.ListN.{length, take}
 use lib.Seq.{take_at}
-use Rattle.iff.specs.Lines.{Line, lines}
 use Rattle.iff.specs.Tables.{Row, row_width, joined, fill}
 use Rattle.iff.specs.declared.RowFile.{RowFile}
-use Rattle.iff.specs.declared.File.TheVariants.{Rows, Groups}
+use Rattle.iff.specs.declared.File.TheVariants.{Rows}
 use Rattle.iff.specs.declared.Form.{Form}
-use Rattle.iff.specs.declared.Verdict.{Verdict}
-use Rattle.iff_rules.specs.Rows.{row_of, later_rows, first_row_of, Context}
-use Rattle.iff_rules.specs.Load.{plain_verdict, later_verdict}
+use Rattle.iff_rules.specs.Rows.{Context}
 use Rattle.reading.specs.declared.RowsRead.{RowsRead}
-use Rattle.reading.specs.Reading.{head_line, Begun, Split, RowsDone}
+use Rattle.reading.specs.Reading.{head_line, Begun, Split}
 use Rattle.file_rows.specs.Plain.{first_in, PlainBegun, RowsOf}
 
 -- the row that begins a table stands first in it

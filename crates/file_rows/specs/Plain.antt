@@ -5,7 +5,6 @@ use Rattle.iff.specs.Tables.{Row, word, tag, row_width, key_word, key_tag, put_r
 use Rattle.iff.specs.declared.RowFile.{RowFile}
 use Rattle.iff.specs.declared.File.TheVariants.{Rows}
 use Rattle.iff.specs.declared.Form.{Form}
-use Rattle.iff.specs.declared.Reason.{Reason}
 use Rattle.iff.specs.declared.Test.{Test}
 use Rattle.iff.specs.declared.Test.TheVariants.{Passes, Fails}
 use Rattle.iff_rules.specs.Rows.{row_of, Context}

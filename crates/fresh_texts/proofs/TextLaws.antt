@@ -1,12 +1,10 @@
 -- Texts that no two lines may share. Assumes nothing.
-use Prim.Native.Nat.{ℕ, suc, ◌+◌, ◌-◌, ◌≤◌, ◌<◌}
+use Prim.Native.Nat.{ℕ, ◌≤◌}
 use mathlib.Core.Path.{◌≡◌, refl, ap, sym, ◌∙◌}
 use mathlib.Core.List.{List, [], ◌∷◌}
-use mathlib.Core.Bool.{Bool, true, false, ◌||◌, not, false≢true, or-false}
-use native.Mathlib.Omega.{arith}
-use lib.ListN.{length, take, drop, length-drop, drop_of_length-le}
-use lib.Seq.{take_all, take-take, drop-nil, take-nil}
-use Rattle.iff.specs.Lists.{any, all2, same}
+use mathlib.Core.Bool.{Bool, true, false, ◌||◌, false≢true, or-false}
+use lib.ListN.{length, drop}
+use Rattle.iff.specs.Lists.{any}
 use Rattle.iff.specs.Lines.{Line, lines}
 use Rattle.iff.specs.declared.RowFile.{RowFile}
 use Rattle.iff.specs.declared.RowFile.TheVariants.{Company, Country, Trnsmode, Stations}
@@ -14,7 +12,7 @@ use Rattle.iff_rules.specs.Unique.{unique_texts, same_text, fresh_texts}
 use Rattle.text.specs.Spans.{LineAt, span_line}
 use Rattle.text.specs.declared.LineSpan.{LineSpan}
 use Rattle.text.proofs.LineLaws.{lines_end}
-use Rattle.fresh_texts.specs.Texts.{as_line, same_columns, shares_text, has_texts}
+use Rattle.fresh_texts.specs.Texts.{shares_text, has_texts}
 
 -- the texts by file
 pub shares : (f : RowFile) (a b : Line) → any (same_text a b) (unique_texts f) ≡ shares_text f a.body b.body

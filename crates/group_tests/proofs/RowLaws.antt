@@ -1,5 +1,5 @@
 -- The tests of a line that is put to a group, and its row. Assumes nothing.
-use Prim.Native.Nat.{ℕ, ◌-◌}
+use Prim.Native.Nat.{ℕ}
 use mathlib.Core.Path.{◌≡◌, sym, ◌∙◌}
 use mathlib.Core.List.{List}
 use Rattle.iff.specs.Refusals.{or_test}

@@ -1,6 +1,6 @@
 -- "Columns": every record as data. Length without CR LF, then fields by column; a comma stands in each gap.
-use Rattle.std.specs.Prelude.{ℕ, suc, ◌+◌, ◌-◌, List, [], ◌∷◌, ◌++◌, Bool, true, false, ◌&&◌, ◌||◌, not, cond, length, take, drop, replicate, eqb}
-use Rattle.iff.specs.Bytes.{hash, percent, ampersand, asterisk, plus, comma, dash, dot, semicolon, less, greater, question, at, allowed, digit, zero_or_one}
+use Rattle.std.specs.Prelude.{ℕ, suc, ◌+◌, ◌-◌, List, [], ◌∷◌, ◌++◌, Bool, true, ◌&&◌, cond, take, drop, replicate, eqb}
+use Rattle.iff.specs.Bytes.{hash, percent, ampersand, asterisk, plus, comma, dash, semicolon, question, allowed, digit, zero_or_one}
 use Rattle.iff.specs.Lists.{all2}
 use Rattle.iff.specs.Lines.{Line}
 use Rattle.iff.specs.declared.Record.{Record}

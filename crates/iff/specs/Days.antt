@@ -1,5 +1,5 @@
 -- "Days are DDMMYYYY, Gregorian, years 1600 to 9999, first not after last; a table of the days before each month serves."
-use Rattle.std.specs.Prelude.{ℕ, zero, suc, ◌+◌, ◌-◌, ◌*◌, ◌/◌, ◌%◌, Bool, true, false, cond, ◌&&◌, List, [], ◌∷◌, get_or, eqb, ltb, leb}
+use Rattle.std.specs.Prelude.{ℕ, zero, suc, ◌+◌, ◌-◌, ◌/◌, ◌%◌, Bool, true, false, cond, ◌&&◌, List, [], ◌∷◌, get_or, eqb, ltb, leb}
 use Rattle.iff.specs.declared.DayOf.{DayOf}
 use Rattle.iff.specs.declared.DayOf.TheVariants.{Day, NotADay}
 

@@ -1,6 +1,5 @@
 -- "Refusals and their order": the numbers, the places, and the first fault of several tests.
 use Rattle.std.specs.Prelude.{ℕ, suc, List, [], ◌∷◌, Bool, true, false}
-use Rattle.iff.specs.declared.File.{File}
 use Rattle.iff.specs.declared.Reason.{Reason}
 use Rattle.iff.specs.declared.Reason.TheVariants.{TooLong, NoRoom, Absent, Layout, Value, FirstLine, Order, Duplicate, Reference, Legs, NotOneBlock, NoService, NoStop, NoDate, NoPeriod, NotSound, NoStation, ShortList}
 use Rattle.iff.specs.declared.Place.{Place}

@@ -1,6 +1,6 @@
 -- Tables: lent `u64` slices, a row per line, the first line included; unused places hold zero.
-use Rattle.std.specs.Prelude.{ℕ, zero, suc, ◌+◌, ◌-◌, ◌*◌, ◌/◌, List, [], ◌∷◌, ◌++◌, map, Bool, true, false, ◌&&◌, ◌||◌, cond, length, get_or, take, drop, replicate, eqb, ltb, leb}
-use Rattle.iff.specs.Lists.{all, any, kept, position}
+use Rattle.std.specs.Prelude.{ℕ, zero, suc, ◌+◌, ◌-◌, ◌*◌, ◌/◌, List, [], ◌∷◌, ◌++◌, map, Bool, true, ◌&&◌, cond, length, get_or, take, drop, replicate, eqb, ltb}
+use Rattle.iff.specs.Lists.{all, kept}
 use Rattle.iff.specs.Bytes.{hash}
 use Rattle.iff.specs.declared.RowFile.{RowFile}
 use Rattle.iff.specs.declared.RowFile.TheVariants.{Company, Country, Trnsmode, Stations}

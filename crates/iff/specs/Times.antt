@@ -1,5 +1,5 @@
 -- "Times. HHMM, hours 00 to 99, minutes 00 to 59. 9999 is no time."
-use Rattle.std.specs.Prelude.{ℕ, ◌+◌, ◌*◌, ◌/◌, ◌%◌, Bool, true, false, cond, ◌&&◌, ◌||◌, not, eqb, ltb, ℤ, pos, ◌+ℤ◌, ◌-ℤ◌}
+use Rattle.std.specs.Prelude.{ℕ, ◌+◌, ◌*◌, ◌/◌, ◌%◌, Bool, true, false, cond, ◌&&◌, eqb, ltb, ℤ, pos, ◌+ℤ◌, ◌-ℤ◌}
 use Rattle.iff.specs.declared.MinutesOf.{MinutesOf}
 use Rattle.iff.specs.declared.MinutesOf.TheVariants.{Minutes, NoMinutes}
 use Rattle.iff.specs.declared.LocalMinutes.{LocalMinutes}

@@ -1,8 +1,8 @@
 -- "Amendment. Lent: tables, a service, a block."
-use Rattle.std.specs.Prelude.{ℕ, suc, ◌+◌, List, [], ◌∷◌, ◌++◌, map, Bool, true, false, cond, length, take, drop, eqb}
+use Rattle.std.specs.Prelude.{ℕ, suc, ◌+◌, List, [], ◌∷◌, ◌++◌, cond, length, take, drop, eqb}
 use Rattle.iff.specs.Lists.{Group, groups, flat, front, position, total}
 use Rattle.iff.specs.Refusals.{first_fault, fine, answer}
-use Rattle.iff.specs.Files.{PerFile, of}
+use Rattle.iff.specs.Files.{PerFile}
 use Rattle.iff.specs.Lines.{lines, text, is_hash}
 use Rattle.iff.specs.Tables.{Row, is_hash_row, row_width, fill}
 use Rattle.iff.specs.Words.{named}

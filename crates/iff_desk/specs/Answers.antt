@@ -1,7 +1,6 @@
 -- The paper's number and values of each answer.
 use Rattle.std.specs.Prelude.{ℕ, List, [], ◌∷◌, Bool, true, false, ℤ}
 use Rattle.iff.specs.Refusals.{number}
-use Rattle.iff.specs.declared.Reason.{Reason}
 use Rattle.iff.specs.declared.Place.{Place}
 use Rattle.iff.specs.declared.Place.TheVariants.{Nowhere}
 use Rattle.iff.specs.declared.Test.{Test}
@@ -12,13 +11,12 @@ use Rattle.iff_desk.specs.declared.Running.{Running}
 use Rattle.iff_desk.specs.declared.Running.TheVariants.{Runs, Rests, RunningRefused}
 use Rattle.iff_desk.specs.declared.TimeOf.{TimeOf}
 use Rattle.iff_desk.specs.declared.TimeOf.TheVariants.{At, NoTime}
-use Rattle.iff_desk.specs.declared.StopTimes.{StopTimes}
 use Rattle.iff_desk.specs.declared.StopTime.{StopTime}
 use Rattle.iff_desk.specs.declared.StopTime.TheVariants.{Times, StopTimeRefused}
 use Rattle.iff_desk.specs.declared.Early.{Early}
 use Rattle.iff_desk.specs.declared.Early.TheVariants.{SameService, FromRests, ToRests, StationsDiffer, NobodyAlights, NobodyBoards}
 use Rattle.iff_desk.specs.declared.Source.{Source}
-use Rattle.iff_desk.specs.declared.Source.TheVariants.{FromChanges, FromStations, FromXchanges}
+use Rattle.iff_desk.specs.declared.Source.TheVariants.{FromChanges, FromStations}
 use Rattle.iff_desk.specs.declared.Bar.{Bar}
 use Rattle.iff_desk.specs.declared.Bar.TheVariants.{Pair00, Flag0}
 use Rattle.iff_desk.specs.declared.Change.{Change}

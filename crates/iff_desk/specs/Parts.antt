@@ -1,6 +1,6 @@
 -- "Name" and "Lines now": parts of the lent texts.
-use Rattle.std.specs.Prelude.{ℕ, ◌+◌, ◌-◌, List, [], ◌∷◌, Bool, true, false, ◌&&◌, ◌||◌, not, cond, length, take, drop, eqb}
-use Rattle.iff.specs.Bytes.{hash, at, digit}
+use Rattle.std.specs.Prelude.{ℕ, ◌+◌, ◌-◌, List, [], ◌∷◌, Bool, false, ◌&&◌, ◌||◌, not, cond, length, take, drop, eqb}
+use Rattle.iff.specs.Bytes.{at, digit}
 use Rattle.iff.specs.Lists.{all}
 use Rattle.iff.specs.Lines.{Line, lines, letter, is_hash, size}
 use Rattle.iff.specs.Columns.{cols, Number, Code, columns}

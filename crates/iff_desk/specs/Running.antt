@@ -1,5 +1,5 @@
 -- "Running day: service, leg, date. 12, 13, 14."
-use Rattle.std.specs.Prelude.{ℕ, suc, List, [], ◌∷◌, Bool, true, false, ◌&&◌, not, ltb, leb}
+use Rattle.std.specs.Prelude.{ℕ, List, [], ◌∷◌, Bool, true, false, ◌&&◌, not, ltb, leb}
 use Rattle.iff.specs.Bytes.{dash}
 use Rattle.iff.specs.Refusals.{first_test, unless}
 use Rattle.iff.specs.Files.{PerFile}

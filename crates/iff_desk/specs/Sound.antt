@@ -1,6 +1,6 @@
 -- "Soundness. Tables are sound when the needed first lines are there, rows meet every rule here on kept fields and file length, and unused places are zero."
-use Rattle.std.specs.Prelude.{ℕ, zero, suc, ◌+◌, ◌*◌, List, [], ◌∷◌, ◌++◌, map, Bool, true, false, ◌&&◌, not, cond, length, get_or, take, drop, eqb, ltb, leb}
-use Rattle.iff.specs.Bytes.{hash, at}
+use Rattle.std.specs.Prelude.{ℕ, suc, ◌+◌, ◌*◌, List, [], ◌∷◌, ◌++◌, Bool, true, false, ◌&&◌, not, cond, length, take, drop, eqb, ltb, leb}
+use Rattle.iff.specs.Bytes.{at}
 use Rattle.iff.specs.Lists.{Group, front, groups, members, all, all_of, total, same, has}
 use Rattle.iff.specs.Files.{PerFile, of, per_file, in_order, needed, limit}
 use Rattle.iff.specs.Columns.{Field, first_fields, fields_of, picture}
@@ -8,15 +8,14 @@ use Rattle.iff.specs.Values.{words_right, word_count}
 use Rattle.iff.specs.Tables.{Row, tag, letterless, is_hash_row, row_width, rows_in, all_zero, keys_of, rising}
 use Rattle.iff.specs.Words.{own_company, rises, line_number, line_count, stop_count}
 use Rattle.iff.specs.declared.RowFile.{RowFile}
-use Rattle.iff.specs.declared.RowFile.TheVariants.{Company, Country, Trnsmode, Stations}
+use Rattle.iff.specs.declared.RowFile.TheVariants.{Company}
 use Rattle.iff.specs.declared.GroupFile.{GroupFile}
-use Rattle.iff.specs.declared.GroupFile.TheVariants.{Timezone, Footnote, Changes, Xfootnote, Xchanges}
 use Rattle.iff.specs.declared.File.{File}
 use Rattle.iff.specs.declared.File.TheVariants.{Delivery, Rows, Groups, Timetbls}
 use Rattle.iff.specs.declared.Stand.{Stand}
 use Rattle.iff.specs.declared.InBlock.{InBlock}
 use Rattle.iff.specs.declared.Form.{Form}
-use Rattle.iff_rules.specs.Order.{may_follow, group_stand, may_end, goes, is_goes, finished, is_stop}
+use Rattle.iff_rules.specs.Order.{may_follow, group_stand, may_end, goes, is_goes, finished}
 use Rattle.iff_rules.specs.Rows.{flag, line_one, Context, context_of, first_of}
 use Rattle.iff_rules.specs.Meaning.{first_meaning, row_meaning, group_meaning, block_meaning}
 use Rattle.iff_rules.specs.Unique.{fresh_in_group}

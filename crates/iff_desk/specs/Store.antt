@@ -1,5 +1,5 @@
 -- What the questions read of a loaded store: a service's rows, its stops and records, a station's row, a zone's period, a footnote's vector.
-use Rattle.std.specs.Prelude.{ℕ, zero, suc, ◌+◌, ◌-◌, ◌*◌, ◌/◌, ◌%◌, ◌^◌, List, [], ◌∷◌, Bool, true, false, ◌&&◌, not, cond, length, get_or, drop, eqb, ltb, leb}
+use Rattle.std.specs.Prelude.{ℕ, ◌+◌, ◌-◌, ◌/◌, ◌%◌, ◌^◌, List, [], ◌∷◌, Bool, true, false, not, get_or, drop, eqb}
 use Rattle.iff.specs.Lists.{Group, groups, members, kept}
 use Rattle.iff.specs.Files.{PerFile}
 use Rattle.iff.specs.Days.{in_period, day_in, day_of, within}
@@ -12,7 +12,7 @@ use Rattle.iff.specs.declared.DayOf.{DayOf}
 use Rattle.iff.specs.declared.DayOf.TheVariants.{Day, NotADay}
 use Rattle.iff_rules.specs.Order.{is_stop}
 use Rattle.iff_rules.specs.Rows.{first_of}
-use Rattle.iff_rules.specs.Legs.{lies, of_kind, stops_of}
+use Rattle.iff_rules.specs.Legs.{lies, of_kind}
 
 abbrev pub no_row : Row
 no_row = []

@@ -7,9 +7,5 @@ pub mod ScanLaws
 pub mod TruthLaws
 pub mod UniqueLaws
 pub mod ReferenceLaws
-pub mod LegLaws
 pub mod AnswerLaws
-pub mod LineLaws
-pub mod TestsLaws
-pub mod MeetsLaws
 pub mod DateLaws

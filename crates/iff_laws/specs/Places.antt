@@ -1,5 +1,5 @@
 -- WHERE A LINE STANDS: lines, groups and rows by number, and what comes before them. `Meets` and `Tests` are written in these words.
-use Rattle.std.specs.Prelude.{ℕ, List, [], ◌∷◌, map, length, get_or, take}
+use Rattle.std.specs.Prelude.{ℕ, List, [], map, length, get_or, take}
 use Rattle.iff.specs.Lists.{Group, members, kept}
 use Rattle.iff.specs.Refusals.{after}
 use Rattle.iff.specs.Files.{PerFile, of}

@@ -1,5 +1,5 @@
 -- "Legs". Leg k goes from stop k to k + 1. Test 10, on the settled rows of a block.
-use Rattle.std.specs.Prelude.{ℕ, zero, suc, ◌+◌, ◌-◌, List, [], ◌∷◌, Bool, true, false, ◌&&◌, cond, length, eqb, ltb, leb}
+use Rattle.std.specs.Prelude.{ℕ, zero, suc, ◌-◌, List, Bool, true, false, ◌&&◌, cond, length, eqb, ltb, leb}
 use Rattle.iff.specs.Bytes.{percent, dash, ampersand, asterisk}
 use Rattle.iff.specs.Lists.{all, kept, total}
 use Rattle.iff.specs.Columns.{on}

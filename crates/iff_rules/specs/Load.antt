@@ -1,11 +1,11 @@
 -- A LOAD: the answer, and the eleven tables, as functions of the eleven files and of the eleven tables' lengths.
-use Rattle.std.specs.Prelude.{ℕ, zero, suc, ◌+◌, List, [], ◌∷◌, ◌++◌, map, Bool, true, false, ◌&&◌, cond, not, length, get_or, drop, replicate, eqb, leb, ltb}
+use Rattle.std.specs.Prelude.{ℕ, ◌+◌, List, [], ◌∷◌, ◌++◌, map, Bool, true, ◌&&◌, cond, length, get_or, drop, replicate, eqb, leb, ltb}
 use Rattle.iff.specs.Bytes.{at}
 use Rattle.iff.specs.Lists.{Group, front, members, same}
-use Rattle.iff.specs.Refusals.{unless, verdict_at, or_else, first_fault, fine, scan, after, answer}
-use Rattle.iff.specs.Files.{PerFile, of, per_file, in_order, needed, limit}
+use Rattle.iff.specs.Refusals.{unless, verdict_at, first_fault, fine, scan, after, answer}
+use Rattle.iff.specs.Files.{PerFile, of, in_order, needed, limit}
 use Rattle.iff.specs.Lines.{Line, lines, letter, is_hash, no_line}
-use Rattle.iff.specs.Columns.{first_fields, fields_of, form424, laid}
+use Rattle.iff.specs.Columns.{first_fields, fields_of, laid}
 use Rattle.iff.specs.Values.{readable}
 use Rattle.iff.specs.Tables.{Row, row_width, room, fill, keys_of}
 use Rattle.iff.specs.Words.{own_company, named}
@@ -21,13 +21,12 @@ use Rattle.iff.specs.declared.Place.{Place}
 use Rattle.iff.specs.declared.Place.TheVariants.{At}
 use Rattle.iff.specs.declared.Test.{Test}
 use Rattle.iff.specs.declared.Verdict.{Verdict}
-use Rattle.iff.specs.declared.Verdict.TheVariants.{Fine, Fault}
+use Rattle.iff.specs.declared.Verdict.TheVariants.{Fine}
 use Rattle.iff.specs.declared.Answer.{Answer}
-use Rattle.iff.specs.declared.Stand.{Stand}
 use Rattle.iff.specs.declared.Stand.TheVariants.{Start}
 use Rattle.iff.specs.declared.InBlock.{InBlock}
 use Rattle.iff.specs.declared.Form.{Form}
-use Rattle.iff_rules.specs.Order.{LineTests, line_test, stray_tests, known_in_group, known_in_block, group_tag, may_follow, group_stand, may_end, goes, is_goes, stand_after, finished, is_stop}
+use Rattle.iff_rules.specs.Order.{line_test, stray_tests, known_in_group, known_in_block, group_tag, may_follow, group_stand, may_end, goes, is_goes, stand_after, finished, is_stop}
 use Rattle.iff_rules.specs.Rows.{row_of, first_row_of, block_rows, blocks_of, rows_of_files, Context, context_of, first_of}
 use Rattle.iff_rules.specs.Meaning.{first_meaning, row_meaning, group_meaning, block_meaning}
 use Rattle.iff_rules.specs.Unique.{fresh_key, fresh_texts, fresh_in_group}

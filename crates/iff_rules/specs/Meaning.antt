@@ -1,7 +1,6 @@
 -- "Values" and "Times" of a row: what its numbers must be, beyond being digits and codes. The same for a line's row and for a table's.
-use Rattle.std.specs.Prelude.{ℕ, Bool, true, false, ◌&&◌, ◌||◌, cond, eqb, ltb, leb}
+use Rattle.std.specs.Prelude.{ℕ, Bool, true, ◌&&◌, cond, eqb, ltb, leb}
 use Rattle.iff.specs.Bytes.{hash, plus}
-use Rattle.iff.specs.Columns.{on}
 use Rattle.iff.specs.Days.{period, span, longest}
 use Rattle.iff.specs.Times.{is_time, is_turn, interval}
 use Rattle.iff.specs.Tables.{Row, tag}

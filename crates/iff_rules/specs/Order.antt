@@ -1,5 +1,5 @@
 -- "Order", and the order of the tests of one line.
-use Rattle.std.specs.Prelude.{ℕ, zero, suc, List, [], ◌∷◌, Bool, true, false, ◌||◌, cond, length, eqb, leb}
+use Rattle.std.specs.Prelude.{ℕ, List, [], ◌∷◌, Bool, true, false, ◌||◌, cond, eqb}
 use Rattle.iff.specs.Bytes.{hash, percent, ampersand, asterisk, plus, dash, dot, semicolon, less, greater, question, at}
 use Rattle.iff.specs.Lists.{has}
 use Rattle.iff.specs.Refusals.{first_test, unless, after}

@@ -1,5 +1,5 @@
 -- "References": what is named must be in its own file.
-use Rattle.std.specs.Prelude.{ℕ, Bool, true, false, ◌&&◌, ◌||◌, cond, eqb}
+use Rattle.std.specs.Prelude.{ℕ, Bool, true, ◌&&◌, ◌||◌, cond, eqb}
 use Rattle.iff.specs.Bytes.{hash, percent, dash, ampersand, asterisk, question}
 use Rattle.iff.specs.Lists.{has}
 use Rattle.iff.specs.Columns.{on}

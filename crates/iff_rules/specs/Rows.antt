@@ -1,13 +1,13 @@
 -- The rows that lines leave in the tables, and what the other files are asked for: keys. Functions of the lines alone, whether or not they are accepted.
-use Rattle.std.specs.Prelude.{ℕ, zero, suc, ◌+◌, List, [], ◌∷◌, ◌++◌, map, Bool, true, false, cond, length, get_or, drop, eqb}
-use Rattle.iff.specs.Bytes.{hash, at}
-use Rattle.iff.specs.Lists.{Group, groups, members, flat, total, kept}
+use Rattle.std.specs.Prelude.{ℕ, suc, List, [], ◌∷◌, ◌++◌, map, Bool, true, false, length, get_or, drop}
+use Rattle.iff.specs.Bytes.{at}
+use Rattle.iff.specs.Lists.{Group, groups, members, kept}
 use Rattle.iff.specs.Files.{PerFile, of, per_file}
 use Rattle.iff.specs.Lines.{Line, lines, letter, is_hash, no_line}
-use Rattle.iff.specs.Columns.{Field, on, first_fields, fields_of, form424}
+use Rattle.iff.specs.Columns.{first_fields, fields_of, form424}
 use Rattle.iff.specs.Values.{words}
 use Rattle.iff.specs.Days.{span}
-use Rattle.iff.specs.Tables.{Row, word, tag, letterless, row_width, padded, keys_of, rising}
+use Rattle.iff.specs.Tables.{Row, row_width, padded, keys_of, rising}
 use Rattle.iff.specs.Words.{first_day, last_day}
 use Rattle.iff.specs.declared.File.{File}
 use Rattle.iff.specs.declared.File.TheVariants.{Delivery, Rows, Groups, Timetbls}

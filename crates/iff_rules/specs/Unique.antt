@@ -1,5 +1,5 @@
 -- "Unique": what no two records may share.
-use Rattle.std.specs.Prelude.{ℕ, List, [], ◌∷◌, map, Bool, true, false, ◌&&◌, ◌||◌, not, cond, eqb, leb}
+use Rattle.std.specs.Prelude.{ℕ, List, [], ◌∷◌, Bool, true, false, ◌&&◌, not, cond, eqb}
 use Rattle.iff.specs.Lists.{any, has, same}
 use Rattle.iff.specs.Lines.{Line}
 use Rattle.iff.specs.Columns.{Field, cols, Text, columns}

@@ -1,5 +1,5 @@
 -- The open group with a row more. Assumes nothing.
-use Prim.Native.Nat.{ℕ, ◌+◌, ◌-◌}
+use Prim.Native.Nat.{ℕ, ◌+◌}
 use mathlib.Core.Path.{◌≡◌}
 use Rattle.iff.specs.declared.GroupStand.{GroupStand}
 use Rattle.iff_rules.specs.Order.{group_moves}

@@ -1,21 +1,19 @@
 -- Laws of lines whose rows are put one after the other: the lines left say what all lines were to say, and the rows left are put where all were to be
 -- put. Assumes nothing.
-use Prim.Native.Nat.{ℕ, suc, ◌+◌, ◌-◌, ◌*◌, ◌≤◌, ◌<◌}
+use Prim.Native.Nat.{ℕ, suc, ◌+◌, ◌*◌, ◌≤◌, ◌<◌}
 use mathlib.Core.Path.{◌≡◌, refl, ap, sym, ◌∙◌}
-use mathlib.Core.List.{List, [], ◌∷◌}
+use mathlib.Core.List.{List}
 use mathlib.Core.Bool.{true}
 use native.Mathlib.Numerals.{add-one}
 use native.Mathlib.Omega.{arith}
 use lib.ListN.{length, take, drop, length-drop}
 use Rattle.iff.specs.Lines.{lines}
-use Rattle.iff.specs.Tables.{put_row}
 use Rattle.iff.specs.declared.Form.{Form}
 use Rattle.iff.specs.declared.InBlock.{InBlock}
 use Rattle.iff_rules.specs.Rows.{block_row, block_rows_from, Context}
 use Rattle.text.specs.Spans.{span_line}
 use Rattle.text.proofs.LineLaws.{lines_end, lines_step}
 use Rattle.tables.proofs.Put.{length_put}
-use Rattle.blocks.specs.Drive.{drive_at, Standing}
 use Rattle.blocks.specs.declared.Turned.TheVariants.{On}
 use Rattle.block_lines.specs.declared.LineStep.TheVariants.{Leads}
 use Rattle.blocks.proofs.ReadLaws.{turns_at, Reading, starts, goes_on, ends}
@@ -24,7 +22,7 @@ use Rattle.tables.proofs.Puts.{put_rows}
 use Rattle.quick_blocks.specs.declared.Ridden.{Ridden}
 use Rattle.quick_blocks.specs.declared.Ridden.TheVariants.{Lines, Stuck}
 use Rattle.quick_steps.specs.Steps.{w, Stepped}
-use Rattle.quick_blocks.specs.Drive.{beyond, Drivable, LinesThrough, Drove}
+use Rattle.quick_blocks.specs.Drive.{beyond, Drivable, Drove}
 use Rattle.quick_blocks.proofs.PutLaws.{take_fewer, kept_before, kept_behind}
 
 -- where the text goes on there is a line

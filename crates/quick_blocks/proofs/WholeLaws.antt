@@ -1,42 +1,38 @@
 -- Laws of a whole block whose rows were put: they read back, they are those of the block, and it is whole. Assumes nothing.
-use Prim.Native.Nat.{ℕ, suc, ◌+◌, ◌-◌, ◌*◌, ◌≤◌, ◌<◌}
-use mathlib.Core.Path.{◌≡◌, refl, ap, sym, ◌∙◌}
-use mathlib.Core.List.{List, [], ◌∷◌, ◌++◌}
-use mathlib.Core.Bool.{Bool, true, cond}
+use Prim.Native.Nat.{ℕ, ◌+◌, ◌-◌, ◌*◌, ◌≤◌, ◌<◌}
+use mathlib.Core.Path.{◌≡◌, ap, sym, ◌∙◌}
+use mathlib.Core.List.{List}
+use mathlib.Core.Bool.{Bool, true}
 use native.Mathlib.Nat.{add-zero}
 use native.Mathlib.Omega.{arith}
 use lib.ListN.{length, take, drop}
-use Rattle.iff.specs.Lists.{kept, members}
+use Rattle.iff.specs.Lists.{kept}
 use Rattle.iff.specs.Lines.{lines, letter}
-use Rattle.iff.specs.Tables.{Row, joined}
+use Rattle.iff.specs.Tables.{Row}
 use Rattle.iff.specs.declared.Form.{Form}
 use Rattle.iff.specs.declared.InBlock.{InBlock}
-use Rattle.iff_rules.specs.Order.{finished, is_stop}
-use Rattle.iff_rules.specs.Rows.{block_rows_from, block_rows, lines_in, stops_in, as_block, Context}
+use Rattle.iff_rules.specs.Order.{is_stop}
+use Rattle.iff_rules.specs.Rows.{block_rows_from, block_rows, lines_in, as_block, Context}
 use Rattle.iff_rules.specs.Legs.{legs, reach_of, stops_of}
 use Rattle.iff_rules.specs.Load.{block_start}
-use Rattle.keys.specs.Blocks.{rows_between, block_of_rows}
+use Rattle.keys.specs.Blocks.{rows_between}
 use Rattle.tables.proofs.Each.{Each}
 use Rattle.tables.proofs.Rows.{Used}
 use Rattle.references.specs.declared.BlockCounts.{BlockCounts}
 use Rattle.legs.proofs.RowLaws.{block_lines_lem, stops_same}
 use Rattle.row_legs.specs.Blocks.{BlockOfStops}
 use Rattle.block_lines.specs.Lines.{keys_from}
-use Rattle.blocks.specs.Drive.{drive_at, Standing}
-use Rattle.blocks.specs.Whole.{LinesRead, last_tests, BlockChecked}
-use Rattle.blocks.specs.declared.Checked.{Checked}
+use Rattle.blocks.specs.Whole.{LinesRead, last_tests}
 use Rattle.blocks.specs.declared.Checked.TheVariants.{Whole}
-use Rattle.blocks.specs.declared.Driven.TheVariants.{Through}
 use Rattle.blocks.proofs.WholeLaws.{lines_read, last_checked}
 use Rattle.block_rows.proofs.RowLaws.{rows_used, rows_count}
 use Rattle.tables.proofs.Puts.{used_wide, put_rows, rows_put}
 use Rattle.quick_blocks.specs.declared.Ridden.{Ridden}
 use Rattle.quick_blocks.specs.declared.Ridden.TheVariants.{Lines}
-use Rattle.quick_blocks.specs.declared.Quickly.{Quickly}
 use Rattle.quick_blocks.specs.declared.Quickly.TheVariants.{Put, Left}
 use Rattle.quick_steps.specs.Steps.{w}
 use Rattle.quick_blocks.specs.Drive.{beyond, Drivable, Drove, LinesThrough}
-use Rattle.quick_blocks.specs.Whole.{WholeSeen, BlockDone, QuickPut}
+use Rattle.quick_blocks.specs.Whole.{WholeSeen, QuickPut}
 use Rattle.quick_blocks.proofs.PutLaws.{rows_back}
 
 count_is : (b : List ℕ) → 0 < length b → lines_in (as_block b) ≡ length (lines b)

@@ -1,8 +1,7 @@
 -- What is told of a whole block that is read in one pass.
 use Rattle.std.specs.Prelude.{ℕ, ◌+◌, ◌*◌, ◌≡◌, List, ◌++◌, Bool, true, take, drop}
-use Rattle.iff.specs.Tables.{row_width, joined}
+use Rattle.iff.specs.Tables.{joined}
 use Rattle.iff.specs.declared.Form.{Form}
-use Rattle.iff.specs.declared.File.TheVariants.{Timetbls}
 use Rattle.iff.specs.declared.InBlock.{InBlock}
 use Rattle.iff_rules.specs.Order.{finished}
 use Rattle.iff_rules.specs.Rows.{block_rows, lines_in, as_block}

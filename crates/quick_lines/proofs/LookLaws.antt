@@ -1,21 +1,20 @@
 -- Laws of a look at some columns: what is right is a column and a figure, and no CR, so that the first CR LF is the one behind them. Assumes nothing.
-use Prim.Native.Nat.{ℕ, zero, suc, ◌+◌, ◌-◌, ◌≤◌, ◌<◌}
-use mathlib.Core.Path.{◌≡◌, refl, ap, sym, ◌∙◌}
+use Prim.Native.Nat.{ℕ, suc, ◌+◌, ◌-◌, ◌≤◌, ◌<◌}
+use mathlib.Core.Path.{◌≡◌, refl, ◌∙◌}
 use mathlib.Core.List.{List, [], ◌∷◌}
-use mathlib.Core.Bool.{Bool, true, false, ◌&&◌, ◌||◌, cond, false≢true}
+use mathlib.Core.Bool.{Bool, true, false, cond, false≢true}
 use native.Mathlib.Omega.{arith}
-use native.Mathlib.Nat.{add-zero}
 use lib.Dec.{eqb, leb}
 use lib.ListN.{length, get_or, take, drop, length-drop}
 use lib.Seq.{get_or-drop, drop-drop}
 use borrow.Author.Tests.{eqb-true, ne_eqb, lt-ltb, leb-true, le-leb}
 use Rattle.iff.specs.Bytes.{cr, comma, allowed, digit}
 use Rattle.iff.specs.Lists.{all2}
-use Rattle.iff.specs.Lines.{Line, lines, crlf, width}
+use Rattle.iff.specs.Lines.{crlf, width}
 use Rattle.iff.specs.Columns.{column, figure, fits, figures}
 use Rattle.text.proofs.LineLaws.{lines_step}
-use Rattle.text.proofs.PictureLaws.{and_left, and_right, same_length}
-use Rattle.quick_lines.specs.Pictures.{right, columns_at, line_here, Pictured}
+use Rattle.text.proofs.PictureLaws.{and_left, and_right}
+use Rattle.quick_lines.specs.Pictures.{right, columns_at, Pictured}
 
 -- ONE BYTE
 digit_allowed : (b : ℕ) → digit b ≡ true → allowed b ≡ true

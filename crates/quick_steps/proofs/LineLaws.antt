@@ -1,11 +1,10 @@
 -- Laws of one line: what is told of it lets it through, and its row is the block's. Assumes nothing.
-use Prim.Native.Nat.{ℕ, zero, suc, ◌+◌, ◌-◌, ◌≤◌, ◌<◌}
+use Prim.Native.Nat.{ℕ, zero, suc, ◌+◌, ◌-◌, ◌<◌}
 use mathlib.Core.Path.{◌≡◌, refl, ap, sym, ◌∙◌}
 use mathlib.Core.List.{List, [], ◌∷◌}
 use mathlib.Core.Bool.{Bool, true, false, cond}
 use native.Mathlib.Omega.{arith}
-use lib.Dec.{eqb}
-use lib.ListN.{length, take, drop}
+use lib.ListN.{drop}
 use Rattle.iff.specs.Lines.{Line, lines, letter}
 use Rattle.iff.specs.Columns.{fields_of, picture, fits}
 use Rattle.iff.specs.Values.{readable}
@@ -15,9 +14,8 @@ use Rattle.iff.specs.declared.File.TheVariants.{Timetbls}
 use Rattle.iff.specs.declared.Stand.{Stand}
 use Rattle.iff.specs.declared.Next.TheVariants.{Goes}
 use Rattle.iff.specs.declared.InBlock.{InBlock}
-use Rattle.iff.specs.declared.Test.TheVariants.{Passes}
 use Rattle.iff_rules.specs.Order.{goes, is_stop}
-use Rattle.iff_rules.specs.Rows.{row_of, block_row, Context}
+use Rattle.iff_rules.specs.Rows.{row_of, Context}
 use Rattle.iff_rules.specs.Meaning.{block_meaning}
 use Rattle.iff_rules.specs.References.{met_in_block}
 use Rattle.iff_rules.specs.Legs.{one}
@@ -27,14 +25,14 @@ use Rattle.text.proofs.PictureLaws.{and_left, and_right}
 use Rattle.records.specs.Layouts.{legible}
 use Rattle.references.specs.declared.BlockCounts.{BlockCounts}
 use Rattle.references.specs.Agree.{BlockKeysAmong}
-use Rattle.block_lines.specs.Lines.{keys_from, record_test, block_step}
+use Rattle.block_lines.specs.Lines.{keys_from}
 use Rattle.block_lines.proofs.StepLaws.{keys_agree, row_passes, let_through}
-use Rattle.quick_lines.specs.Pictures.{columns_at, line_here}
+use Rattle.quick_lines.specs.Pictures.{line_here}
 use Rattle.quick_words.specs.declared.Words.{Words}
 use Rattle.quick_words.specs.Told.{Seen}
 use Rattle.quick_steps.specs.declared.LinePut.{LinePut}
 use Rattle.quick_steps.specs.declared.LinePut.TheVariants.{Next, Unsure}
-use Rattle.quick_steps.specs.Steps.{w, Passing, WordsPut, Stepped, LineTurn}
+use Rattle.quick_steps.specs.Steps.{w, Passing, WordsPut, LineTurn}
 
 any_fresh : (b : Bool) → cond b true true ≡ true
 any_fresh true = refl

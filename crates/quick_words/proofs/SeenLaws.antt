@@ -1,19 +1,19 @@
 -- A record that is told by its fields is seen by its letter. Assumes nothing.
-use Prim.Native.Nat.{ℕ, zero, suc, ◌+◌, ◌-◌, ◌≤◌, ◌<◌}
+use Prim.Native.Nat.{ℕ, zero, suc, ◌-◌, ◌≤◌, ◌<◌}
 use mathlib.Core.Path.{◌≡◌, refl, ap, sym, ◌∙◌}
 use mathlib.Core.List.{List, [], ◌∷◌, ◌++◌}
-use mathlib.Core.Bool.{Bool, true, false, ◌&&◌}
+use mathlib.Core.Bool.{true}
 use native.Mathlib.Nat.{add-zero}
 use native.Mathlib.Omega.{arith}
 use lib.Dec.{eqb}
 use lib.ListN.{length, get_or, take, drop, replicate, length-append}
 use lib.Seq.{get_or-drop}
 use Rattle.iff.specs.Bytes.{hash, percent, dash, ampersand, asterisk, plus, dot, semicolon, less, greater, question}
-use Rattle.iff.specs.Lists.{any, all}
+use Rattle.iff.specs.Lists.{any}
 use Rattle.iff.specs.Lines.{Line, letter}
-use Rattle.iff.specs.Columns.{Field, picture, columns, record_fields, block_record, record_of, fields_of, service_fields, number_fields, validity_fields}
+use Rattle.iff.specs.Columns.{Field, record_fields, block_record, record_of, fields_of, service_fields, number_fields, validity_fields}
 use Rattle.iff.specs.Columns.{transport_fields, attribute_fields, stop_fields, interval_fields, passed_fields, platform_fields}
-use Rattle.iff.specs.Values.{field_right, field_words, words, readable}
+use Rattle.iff.specs.Values.{field_words, words, readable}
 use Rattle.iff.specs.Tables.{Row, padded}
 use Rattle.iff.specs.declared.Form.{Form}
 use Rattle.iff.specs.declared.Edition.{Edition}

@@ -1,7 +1,7 @@
 -- What is told of a record that stands somewhere in a text.
 use Rattle.std.specs.Prelude.{ℕ, ◌+◌, ◌≤◌, ◌≡◌, List, [], ◌∷◌, ◌++◌, Bool, true, length, drop}
 use Rattle.iff.specs.Lists.{all, has}
-use Rattle.iff.specs.Lines.{Line, lines, letter}
+use Rattle.iff.specs.Lines.{lines, letter}
 use Rattle.iff.specs.Columns.{Field, picture, columns}
 use Rattle.iff.specs.Values.{field_right, words}
 use Rattle.iff.specs.Tables.{Row, padded}

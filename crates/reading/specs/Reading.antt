@@ -5,7 +5,7 @@ use Rattle.iff.specs.Refusals.{or_else, fine}
 use Rattle.iff.specs.Lines.{Line, lines, no_line}
 use Rattle.iff.specs.Columns.{first_fields, picture, fits, form424}
 use Rattle.iff.specs.Values.{readable}
-use Rattle.iff.specs.Tables.{Row, tag, row_width, room, fill, key_tag, keys_of, rising}
+use Rattle.iff.specs.Tables.{Row, tag, row_width, fill, key_tag, keys_of, rising}
 use Rattle.iff.specs.declared.File.{File}
 use Rattle.iff.specs.declared.File.TheVariants.{Delivery}
 use Rattle.iff.specs.declared.Form.{Form}

@@ -10,9 +10,9 @@ use lib.ListN.{length}
 use Rattle.iff.specs.Lists.{any, has}
 use Rattle.iff.specs.declared.RowFile.{RowFile}
 use Rattle.marks.specs.Marks.{slots, with_marks, Marked}
-use Rattle.marks.proofs.MarkLaws.{none_marked, marked_next, still_marked}
+use Rattle.marks.proofs.MarkLaws.{marked_next, still_marked}
 use Rattle.text_numbers.specs.Numbers.{text_numbers}
-use Rattle.row_marks.specs.Remembered.{spread_of, Remembers, LineMarked}
+use Rattle.row_marks.specs.Remembered.{spread_of, LineMarked}
 
 -- a key's two halves, each times its factor, fit a word
 pub halves_fit : (low high : ℕ) → low < 4294967296 → high < 4294967296 → low * 2654435761 + high * 1597334677 < 2 ^ 64

@@ -29,7 +29,7 @@ use Rattle.iff_rules.specs.References.{met_in_block}
 use Rattle.iff_rules.specs.Load.{block_test, block_next, block_moves}
 use Rattle.iff_laws.specs.ScanLaws.{verdict_fine}
 use Rattle.iff_laws.specs.TruthLaws.{both}
-use Rattle.iff_laws.specs.LineLaws.{Seven, line_passes}
+use Rattle.iff_laws.proofs.LineLaws.{Seven, line_passes}
 use Rattle.iff_laws.specs.Tests.{asked_in_block}
 use Rattle.iff_desk.specs.Sound.{shaped, own_words, sound_block_row, row_size, stand_after_rows}
 use Rattle.text.proofs.PictureLaws.{and_left, and_right, same_length}

@@ -30,7 +30,7 @@ use Rattle.iff_rules.specs.Meaning.{first_meaning}
 use Rattle.iff_rules.specs.Load.{first_line_test, second, delivery_verdict, later_verdict, file_verdict}
 use Rattle.iff_laws.specs.ScanLaws.{cons_fine, verdict_fine}
 use Rattle.iff_laws.specs.TruthLaws.{both, same_equal, same_self}
-use Rattle.iff_laws.specs.LineLaws.{line_passes}
+use Rattle.iff_laws.proofs.LineLaws.{line_passes}
 use Rattle.iff_desk.specs.Sound.{passes, distinct, sound_first, sound_later, row_size, first_size, sound_rows}
 use Rattle.text.proofs.PictureLaws.{and_left, and_right, same_length}
 use Rattle.tables.proofs.Each.{Each}

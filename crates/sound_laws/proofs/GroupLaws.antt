@@ -22,7 +22,7 @@ use Rattle.iff_rules.specs.Load.{group_test, group_verdict, groups_verdict, Betw
 use Rattle.iff_laws.specs.Places.{key_of}
 use Rattle.iff_laws.specs.ScanLaws.{or_fine, cons_fine, unless_passes, verdict_fine}
 use Rattle.iff_laws.specs.TruthLaws.{both, and_both}
-use Rattle.iff_laws.specs.MeetsLaws.{stray_none}
+use Rattle.iff_laws.proofs.MeetsLaws.{stray_none}
 use Rattle.iff_desk.specs.Sound.{followed_by, distinct, sound_group_row, sound_group, sound_groups, empty, row_size}
 use Rattle.tables.proofs.Each.{Each}
 use Rattle.records.proofs.FileLaws.{row_tag}

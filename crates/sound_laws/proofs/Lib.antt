@@ -7,4 +7,5 @@ pub mod GroupLaws
 pub mod TimetblsLaws
 pub mod FileLaws
 pub mod TextLaws
+pub mod FileBytes
 pub mod SoundLaws

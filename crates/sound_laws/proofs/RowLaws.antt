@@ -29,7 +29,7 @@ use Rattle.iff_rules.specs.Unique.{fresh_key}
 use Rattle.iff_rules.specs.Load.{plain_test, group_test}
 use Rattle.iff_laws.specs.ScanLaws.{verdict_fine}
 use Rattle.iff_laws.specs.TruthLaws.{both}
-use Rattle.iff_laws.specs.LineLaws.{Seven, line_passes}
+use Rattle.iff_laws.proofs.LineLaws.{Seven, line_passes}
 use Rattle.iff_laws.specs.Tests.{asked_of_row, asked_in_group}
 use Rattle.iff_desk.specs.Sound.{shaped, sound_plain_row, sound_group_row, row_size}
 use Rattle.text.proofs.PictureLaws.{and_left, and_right, same_length}

@@ -31,7 +31,7 @@ use Rattle.iff_rules.specs.Load.{delivery_verdict, header_of, read_file, content
 use Rattle.iff_laws.specs.ScanLaws.{no_fault_all, unless_passes, verdict_fine}
 use Rattle.iff_laws.specs.TruthLaws.{and_both, says_itself, says_lt, says_where}
 use Rattle.iff_laws.specs.Meets.{Meets}
-use Rattle.iff_laws.specs.MeetsLaws.{fine_exactly}
+use Rattle.iff_laws.proofs.MeetsLaws.{fine_exactly}
 use Rattle.iff_desk.specs.Sound.{rows_of_tables, held_in, sound_rows, sound_table, sound}
 use Rattle.text.proofs.PackLaws.{Each as EachByte}
 use Rattle.tables.proofs.Each.{Each}
@@ -39,14 +39,10 @@ use Rattle.tables.proofs.Rows.{Used}
 use Rattle.tables.proofs.Widths.{widths}
 use Rattle.tables.proofs.Filled.{rows_in_fill, fill_behind, zeros_all}
 use Rattle.file_laws.proofs.RowLaws.{Held, held_rows, held_groups, held_timetbls}
+pub use Rattle.sound_laws.proofs.FileBytes.{OfBytes}
 use Rattle.sound_laws.proofs.PassLaws.{all_hold}
 use Rattle.sound_laws.proofs.TextLaws.{lines_bytes, length_lines, some_lines}
 use Rattle.sound_laws.proofs.FileLaws.{FileFine, rows_sound, delivery_fine, file_fine, delivery_words_lem, delivery_formless}
-
--- WHAT IS ASSUMED: a file is made of bytes. A code is packed at 256 to a byte, and a number above 255 is an allowed byte to the definitions,
--- which have no other reason to say what the type of a lent `&[u8]` says.
-pub record OfBytes (F : PerFile (List ℕ)) : Type 0 where
-  pub below : (f : File) → EachByte 256 (of F f)
 
 -- ELEVEN VALUES: each is the function's, and where two functions agree they are the same
 module _ {A : Type 0} (v : File → A) where

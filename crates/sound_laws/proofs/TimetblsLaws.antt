@@ -24,8 +24,8 @@ use Rattle.iff_rules.specs.Legs.{reach_of, legs}
 use Rattle.iff_rules.specs.Load.{block_test, block_start, block_moves, block_next, block_verdict, timetbls_verdict, service_of}
 use Rattle.iff_laws.specs.ScanLaws.{or_fine, cons_fine, unless_passes, verdict_fine}
 use Rattle.iff_laws.specs.TruthLaws.{and_both}
-use Rattle.iff_laws.specs.MeetsLaws.{stray_none}
-use Rattle.iff_laws.specs.LineLaws.{Seven}
+use Rattle.iff_laws.proofs.MeetsLaws.{stray_none}
+use Rattle.iff_laws.proofs.LineLaws.{Seven}
 use Rattle.iff_laws.specs.Tests.{asked_in_block}
 use Rattle.iff_desk.specs.Sound.{passes, followed_by, distinct, next_row, rows_start, sound_block_row, sound_block, sound_timetbls, empty, row_size}
 use Rattle.tables.proofs.Each.{Each}

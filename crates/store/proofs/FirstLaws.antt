@@ -12,7 +12,7 @@ use lib.Seq.{take_all}
 use Rattle.iff.specs.Bytes.{hash}
 use Rattle.iff.specs.Files.{PerFile}
 use Rattle.iff.specs.Lists.{Group, front, groups, kept}
-use Rattle.iff.specs.Tables.{Row, tag, word, is_hash_row, row_width, row_at, rows_in, keyed, key_tag, key_word, first_row}
+use Rattle.iff.specs.Tables.{Row, is_hash_row, row_width, row_at, rows_in, keyed, key_tag, key_word, first_row}
 use Rattle.iff.specs.Words.{named}
 use Rattle.iff.specs.declared.RowFile.TheVariants.{Stations}
 use Rattle.iff.specs.declared.File.{File}
@@ -22,7 +22,7 @@ use Rattle.iff.specs.declared.RowOf.TheVariants.{Row as RowIs, NoRow}
 use Rattle.iff_rules.specs.Rows.{first_of}
 use Rattle.iff_desk.specs.Store.{no_row, rows_of_groups, group_of, station_row}
 use Rattle.tables.proofs.Rows.{row_inside, rows_most, row_is}
-use Rattle.tables.proofs.First.{found, first_passing}
+use Rattle.tables.proofs.First.{first_passing}
 use Rattle.keys.specs.Blocks.{rows_between}
 use Rattle.keys.specs.Lookup.{FoundRow}
 use Rattle.keys.proofs.Blocks.{between_in_table}

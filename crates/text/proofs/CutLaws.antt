@@ -7,10 +7,9 @@ use native.Mathlib.Nat.{sub_self}
 use native.Mathlib.Numerals.{add-one}
 use native.Mathlib.Omega.{arith}
 use lib.Dec.{eqb}
-use lib.ListN.{length, get_or, take, drop, length-append, length-drop, length-take}
-use lib.Seq.{drop-cons, drop-drop, take-add, take-suc, take_at, drop_at}
+use lib.ListN.{length, get_or, take, drop, length-append, length-drop}
+use lib.Seq.{drop-cons, drop-drop, take-add, take-suc, take_at}
 use borrow.Author.Tests.{eqb-true}
-use Rattle.iff.specs.Bytes.{cr, lf}
 use Rattle.iff.specs.Lines.{Line, crlf, before, lines, text, no_line}
 use Rattle.text.specs.declared.LineSpan.{LineSpan}
 use Rattle.text.specs.Spans.{span_line, LineAt}

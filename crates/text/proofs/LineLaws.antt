@@ -8,14 +8,12 @@ use native.Mathlib.Omega.{arith}
 use native.Mathlib.Numerals.{add-one, add-two}
 use lib.Dec.{leb-suc-suc, eqb, ltb}
 use lib.ListN.{length, get_or, take, drop, length-drop, drop_of_length-le}
-use lib.Seq.{drop-cons, get_or-drop, drop-drop, drop-length, take_all, take-nil}
+use lib.Seq.{drop-cons, get_or-drop, drop-drop, take_all, take-nil}
 use borrow.Author.Tests.{lt-ltb, le-ltb, ltb-true, ltb-false}
-use Rattle.iff.specs.declared.Eol.{Eol}
 use Rattle.iff.specs.declared.Eol.TheVariants.{Ended, Unended}
 use Rattle.iff.specs.Bytes.{cr}
 use Rattle.iff.specs.Lines.{Line, crlf, before, lines, width, first_line, eol_at}
 use Rattle.text.specs.Spans.{LineAt}
-use Rattle.text.specs.declared.LineSpan.{LineSpan}
 
 -- the definitions' equations, to rewrite with while they stay shut
 pub lines_nil : lines [] ≡ []

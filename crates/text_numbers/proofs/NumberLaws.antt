@@ -1,13 +1,13 @@
 -- Numbers of texts: equal texts have equal numbers. Assumes nothing.
-use Prim.Native.Nat.{ℕ, suc, ◌+◌, ◌-◌, ◌≤◌, ◌<◌}
+use Prim.Native.Nat.{ℕ, ◌+◌, ◌≤◌, ◌<◌}
 use mathlib.Core.Path.{◌≡◌, refl, ap, sym, ◌∙◌, subst}
 use mathlib.Core.List.{List, [], ◌∷◌, ◌++◌, append-nil, append_assoc}
-use mathlib.Core.Bool.{Bool, true, false, ◌||◌, not, false≢true}
+use mathlib.Core.Bool.{Bool, true, false, ◌||◌, false≢true}
 use native.Mathlib.Numerals.{add-one}
 use native.Mathlib.Omega.{arith}
 use borrow.Author.Tests.{eq-eqb}
 use lib.Dec.{eqb}
-use lib.ListN.{length, get_or, take, drop, drop_of_length-le}
+use lib.ListN.{length, get_or, drop, drop_of_length-le}
 use lib.Seq.{drop-cons}
 use Rattle.iff.specs.Lists.{any, has, same}
 use Rattle.iff.specs.Lines.{Line}
@@ -17,7 +17,7 @@ use Rattle.iff_rules.specs.Unique.{unique_texts, same_text, fresh_texts}
 use Rattle.text.proofs.PictureLaws.{same_is}
 use Rattle.marks.specs.Marks.{with_marks, Marked}
 use Rattle.marks.proofs.MarkLaws.{marked_next}
-use Rattle.fresh_texts.specs.Texts.{same_columns, shares_text}
+use Rattle.fresh_texts.specs.Texts.{shares_text}
 use Rattle.fresh_texts.proofs.TextLaws.{shares}
 use Rattle.text_numbers.specs.Numbers.{next_number, text_number, columns_number, text_numbers, numbers_of, some_in}
 

@@ -1,7 +1,6 @@
 -- `block_ends::hop_over` meets its contract: each line that is hopped over ends in CR LF, and begins no block. Assumes nothing.
-use Prim.Native.Nat.{◌-◌}
 use native.Mathlib.Omega.{arith}
-use Rattle.block_ends.proofs.HopLaws.{Hopping, hopping_start, hopping_next, hopped_head, hopped_end}
+use Rattle.block_ends.proofs.HopLaws.{hopping_start, hopping_next, hopped_head, hopped_end}
 use Rattle.block_ends.proofs.hop_over.Goals as goal
 
 pub returns-then-at-eq0 : goal.returns-then-at-eq0

@@ -1,7 +1,7 @@
 -- `block_ends::hop_over` meets its contract: each line that is hopped over ends in CR LF, and begins no block. Assumes nothing.
 use Prim.Native.Nat.{◌-◌}
 use lib.ListN.{length}
-use Rattle.block_ends.proofs.HopLaws.{Hopping, hopping_start, hopping_next, hopped_head, hopped_end}
+use Rattle.block_ends.proofs.HopLaws.{Hopping}
 use Rattle.block_ends.proofs.hop_over.Given as goal
 
 abbrev pub invariant-loop-at : goal.invariant-loop-at

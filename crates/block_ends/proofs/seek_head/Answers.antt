@@ -1,8 +1,7 @@
 -- `block_ends::seek_head` meets its contract: no line after the first begins with `#` so far. Assumes nothing.
-use Prim.Native.Nat.{◌-◌}
 use mathlib.Core.Path.{sym, ◌∙◌}
 use borrow.Author.Tests.{eq-eqb, ne_eqb}
-use Rattle.block_ends.proofs.PartLaws.{Seeking, seek_start, seek_next, seek_found, seek_none}
+use Rattle.block_ends.proofs.PartLaws.{seek_start, seek_next, seek_found, seek_none}
 use Rattle.block_ends.proofs.seek_head.Goals as goal
 
 pub returns-then-first_byte-eq35 : goal.returns-then-first_byte-eq35

@@ -1,7 +1,7 @@
 -- `block_ends::seek_head` meets its contract: no line after the first begins with `#` so far. Assumes nothing.
 use Prim.Native.Nat.{◌-◌}
 use lib.ListN.{length}
-use Rattle.block_ends.proofs.PartLaws.{Seeking, seek_start, seek_next, seek_found, seek_none}
+use Rattle.block_ends.proofs.PartLaws.{Seeking}
 use Rattle.block_ends.proofs.seek_head.Given as goal
 
 abbrev pub invariant-loop-at : goal.invariant-loop-at

@@ -1,8 +1,7 @@
 -- `block_legs::are_in_range` meets its contract: what is left to ask is the whole. Assumes nothing.
-use Prim.Native.Nat.{◌-◌}
 use mathlib.Core.Path.{sym, ◌∙◌}
 use borrow.Author.Tests.{not-true, not-false}
-use Rattle.block_legs.proofs.LineLaws.{Ranging, ranging_first, legible_here, ranging_not, ranging_next, ranging_all}
+use Rattle.block_legs.proofs.LineLaws.{ranging_first, legible_here, ranging_not, ranging_next, ranging_all}
 use Rattle.block_legs.proofs.are_in_range.Goals as goal
 
 pub line_in_range-requires : goal.line_in_range-requires

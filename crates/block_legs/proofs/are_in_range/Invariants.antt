@@ -1,7 +1,7 @@
 -- `block_legs::are_in_range` meets its contract: what is left to ask is the whole. Assumes nothing.
 use Prim.Native.Nat.{◌-◌}
 use lib.ListN.{length}
-use Rattle.block_legs.proofs.LineLaws.{Ranging, ranging_first, legible_here, ranging_not, ranging_next, ranging_all}
+use Rattle.block_legs.proofs.LineLaws.{Ranging}
 use Rattle.block_legs.proofs.are_in_range.Given as goal
 
 abbrev pub invariant-loop-at : goal.invariant-loop-at

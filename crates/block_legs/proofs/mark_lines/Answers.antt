@@ -1,7 +1,6 @@
 -- `block_legs::mark_lines` meets its contract: the marks set and those that the lines left will set are all. Assumes nothing.
-use Prim.Native.Nat.{◌-◌}
 use borrow.Author.Tests.{not-true, not-false}
-use Rattle.block_legs.proofs.LineLaws.{MarkingAll, marking_first, markable, marked_here, marked_next, marked_lines}
+use Rattle.block_legs.proofs.LineLaws.{marking_first, markable, marked_here, marked_next, marked_lines}
 use Rattle.block_legs.proofs.mark_lines.Goals as goal
 
 pub mark_line-requires : goal.mark_line-requires

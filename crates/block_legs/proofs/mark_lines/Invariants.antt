@@ -1,7 +1,7 @@
 -- `block_legs::mark_lines` meets its contract: the marks set and those that the lines left will set are all. Assumes nothing.
 use Prim.Native.Nat.{◌-◌}
 use lib.ListN.{length}
-use Rattle.block_legs.proofs.LineLaws.{MarkingAll, marking_first, markable, marked_here, marked_next, marked_lines}
+use Rattle.block_legs.proofs.LineLaws.{MarkingAll}
 use Rattle.block_legs.proofs.mark_lines.Given as goal
 
 abbrev pub invariant-loop-at : goal.invariant-loop-at

@@ -1,7 +1,6 @@
 -- `block_rows::write_block` meets its contract: the rows that are left to put make the whole. Assumes nothing.
-use Prim.Native.Nat.{◌-◌}
 use native.Mathlib.Omega.{arith}
-use Rattle.block_rows.proofs.WriteLaws.{Writing, write_start, line_readable, line_room, write_next, write_end}
+use Rattle.block_rows.proofs.WriteLaws.{write_start, line_readable, line_room, write_next, write_end}
 use Rattle.block_rows.proofs.write_block.Goals as goal
 
 pub overflow_add-start : goal.overflow_add-start

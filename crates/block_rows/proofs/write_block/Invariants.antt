@@ -1,7 +1,7 @@
 -- `block_rows::write_block` meets its contract: the rows that are left to put make the whole. Assumes nothing.
 use Prim.Native.Nat.{◌-◌}
 use lib.ListN.{length}
-use Rattle.block_rows.proofs.WriteLaws.{Writing, write_start, line_readable, line_room, write_next, write_end}
+use Rattle.block_rows.proofs.WriteLaws.{Writing}
 use Rattle.block_rows.proofs.write_block.Given as goal
 
 abbrev pub invariant-loop-at : goal.invariant-loop-at

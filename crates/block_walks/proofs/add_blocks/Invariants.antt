@@ -1,7 +1,7 @@
 -- `block_walks::add_blocks` meets its contract: the blocks left say what all blocks were to say. Assumes nothing.
 use Prim.Native.Nat.{◌-◌}
 use lib.ListN.{length}
-use Rattle.block_walks.proofs.AddLaws.{Adding, adding_start, addable, adding_faulty, adding_next, adding_end}
+use Rattle.block_walks.proofs.AddLaws.{Adding}
 use Rattle.block_walks.proofs.add_blocks.Given as goal
 
 abbrev pub invariant-loop-at : goal.invariant-loop-at

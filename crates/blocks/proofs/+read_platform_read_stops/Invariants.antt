@@ -1,12 +1,9 @@
 -- `blocks::read_platform` and `blocks::read_stops` meet their contracts. What is left of the text falls; at one place of it a reader of stops
 -- comes before a reader of platforms. The loop's invariant: the lines left say what all lines were to say. Assumes nothing.
-use Prim.Native.Nat.{ℕ, ◌<◌, ◌+◌, ◌*◌, ◌-◌}
-use mathlib.Core.Path.{sym, ◌∙◌}
-use native.Mathlib.Omega.{arith}
-use borrow.Author.Rules.{rules}
+use Prim.Native.Nat.{◌+◌, ◌*◌, ◌-◌}
 use lib.ListN.{length}
 use Rattle.block_lines.specs.Lines.{keys_from}
-use Rattle.blocks.proofs.ReadLaws.{Reading, starts, held, goes_on, ends}
+use Rattle.blocks.proofs.ReadLaws.{Reading}
 use Rattle.blocks.proofs.+read_platform_read_stops.Given as goal
 
 abbrev pub decreases-read_platform : goal.decreases-read_platform

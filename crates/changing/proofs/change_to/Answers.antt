@@ -25,19 +25,13 @@ day-of n x y e h = rw e h
 part_of : (t : List ℕ) (p : Part) (x y : Call) → x ≡ y → PartFor t y.service p → PartFor t x.service p
 part_of t p x y e h = rw e h
 
--- A passes, so that the precheck is what B is asked
-module _ (c : goal.After-to_part) (R : PerFile (List Row)) (d : R.delivery ≡ rows_in Delivery c.args.delivery.now)
-    (e : R.timetbls ≡ rows_in Timetbls c.args.timetbls.now) where
-  checked : precheck R (side_of c.args.from) (side_of c.args.to) ≡ c.to_part.result
-  checked =
-      sym (c.to_part.ensures R d e ∙ from_passes R (side_of c.args.from) (side_of c.args.to) (c.requires.2 R d e))
-
 pub core_change-requires : goal.core_change-requires
 unfolding rows_of
 core_change-requires c =
+    let checked : (R : PerFile (List Row)) (d : R.delivery ≡ rows_in Delivery c.args.delivery.now) (e : R.timetbls ≡ rows_in Timetbls c.args.timetbls.now) → precheck R (side_of c.args.from) (side_of c.args.to) ≡ c.to_part.result = λ R d e. sym (c.to_part.ensures R d e ∙ from_passes R (side_of c.args.from) (side_of c.args.to) (c.requires.2 R d e)) in
     let a = c.args in
     let R = rows_of a.delivery.now a.timetbls.now in
-    let q = checked c R refl refl ∙ c.in-Passes.is in
+    let q = checked R refl refl ∙ c.in-Passes.is in
     let d = days_few R a.delivery.now refl c.requires.0.days (side_of a.from) (side_of a.to) q in
     let x = c.call_of-a.ensures R refl in
     let y = c.call_of-b.ensures R refl in (
@@ -50,15 +44,17 @@ core_change-requires c =
 
 pub returns-in-Fails : goal.returns-in-Fails
 returns-in-Fails c R w =
+    let checked : (R : PerFile (List Row)) (d : R.delivery ≡ rows_in Delivery c.args.delivery.now) (e : R.timetbls ≡ rows_in Timetbls c.args.timetbls.now) → precheck R (side_of c.args.from) (side_of c.args.to) ≡ c.to_part.result = λ R d e. sym (c.to_part.ensures R d e ∙ from_passes R (side_of c.args.from) (side_of c.args.to) (c.requires.2 R d e)) in
     let a = c.args in
     ap (λ (t : Test). change_after t (core_change R (call_of R (side_of a.from)) (call_of R (side_of a.to))))
-    (sym (checked c R w.zones.delivery w.timetbls ∙ c.in-Fails.is))
+    (sym (checked R w.zones.delivery w.timetbls ∙ c.in-Fails.is))
 
 pub returns-in-Passes : goal.returns-in-Passes
 returns-in-Passes c R w =
+    let checked : (R : PerFile (List Row)) (d : R.delivery ≡ rows_in Delivery c.args.delivery.now) (e : R.timetbls ≡ rows_in Timetbls c.args.timetbls.now) → precheck R (side_of c.args.from) (side_of c.args.to) ≡ c.to_part.result = λ R d e. sym (c.to_part.ensures R d e ∙ from_passes R (side_of c.args.from) (side_of c.args.to) (c.requires.2 R d e)) in
     let a = c.args in
     c.core_change.ensures R w
     ∙ ap (λ (z : Call). core_change R z c.call_of-b.result) (c.call_of-a.ensures R w.zones.delivery)
     ∙ ap (λ (z : Call). core_change R (call_of R (side_of a.from)) z) (c.call_of-b.ensures R w.zones.delivery)
     ∙ ap (λ (t : Test). change_after t (core_change R (call_of R (side_of a.from)) (call_of R (side_of a.to))))
-    (sym (checked c R w.zones.delivery w.timetbls ∙ c.in-Passes.is))
+    (sym (checked R w.zones.delivery w.timetbls ∙ c.in-Passes.is))

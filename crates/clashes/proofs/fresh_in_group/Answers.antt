@@ -1,6 +1,5 @@
 -- `fresh_in_group` meets its contract: what is left clashes exactly when the whole does. Assumes nothing.
-use Prim.Native.Nat.{◌-◌}
-use mathlib.Core.Path.{◌≡◌, ap, sym, ◌∙◌}
+use mathlib.Core.Path.{ap, sym, ◌∙◌}
 use mathlib.Core.Bool.{not}
 use Rattle.iff_rules.specs.Unique.{clash}
 use Rattle.tables.proofs.Rows.{row_inside}

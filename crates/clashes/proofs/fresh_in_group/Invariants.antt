@@ -1,6 +1,6 @@
 -- `fresh_in_group` meets its contract: what is left clashes exactly when the whole does. Assumes nothing.
 use Prim.Native.Nat.{◌-◌}
-use mathlib.Core.Path.{◌≡◌, ap, sym, ◌∙◌}
+use mathlib.Core.Path.{◌≡◌}
 use Rattle.iff.specs.Lists.{any}
 use Rattle.iff.specs.Tables.{row_width}
 use Rattle.iff.specs.declared.File.TheVariants.{Groups}

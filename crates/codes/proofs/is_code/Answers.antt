@@ -2,7 +2,7 @@
 use mathlib.Core.Path.{sym, ◌∙◌}
 use native.Mathlib.Omega.{arith}
 use borrow.Author.Tests.{not-true, not-false}
-use Rattle.codes.proofs.CodeLaws.{Coding, code_begin, code_fails, code_on, code_long, code_end}
+use Rattle.codes.proofs.CodeLaws.{code_begin, code_fails, code_on, code_long, code_end}
 use Rattle.codes.proofs.is_code.Goals as goal
 
 pub returns-then-not-is_allowed : goal.returns-then-not-is_allowed

@@ -1,5 +1,5 @@
 -- What the bytes that are left say is the whole. Assumes nothing.
-use Rattle.codes.proofs.CodeLaws.{Coding, code_begin, code_fails, code_on, code_long, code_end}
+use Rattle.codes.proofs.CodeLaws.{Coding}
 use Rattle.codes.proofs.is_code.Given as goal
 
 abbrev pub invariant-loop-columns : goal.invariant-loop-columns

@@ -1,8 +1,7 @@
 -- What is left to test is the whole. Assumes nothing.
-use Prim.Native.Nat.{◌-◌}
 use mathlib.Core.Path.{sym, ◌∙◌}
 use borrow.Author.Tests.{not-true, not-false}
-use Rattle.day_marks.proofs.MarkLaws.{Reading, read_begin, read_fails, read_on, read_end}
+use Rattle.day_marks.proofs.MarkLaws.{read_begin, read_fails, read_on, read_end}
 use Rattle.day_marks.proofs.are_marks_right.Goals as goal
 
 pub returns-then-not-fits_days : goal.returns-then-not-fits_days

@@ -1,7 +1,7 @@
 -- What is left to test is the whole. Assumes nothing.
 use Prim.Native.Nat.{◌-◌}
 use Rattle.iff.specs.Values.{vector_width}
-use Rattle.day_marks.proofs.MarkLaws.{Reading, read_begin, read_fails, read_on, read_end}
+use Rattle.day_marks.proofs.MarkLaws.{Reading}
 use Rattle.day_marks.proofs.are_marks_right.Given as goal
 
 abbrev pub invariant-loop-i : goal.invariant-loop-i

@@ -1,7 +1,7 @@
 -- A word of marks halved as often as there are days left is none where it has no mark beyond them. Assumes nothing.
 use native.Mathlib.Omega.{arith}
 use borrow.Author.Rules.{rules}
-use Rattle.day_marks.proofs.MarkLaws.{Halving, halve_begin, halve_on, halve_long, halve_end, all_days}
+use Rattle.day_marks.proofs.MarkLaws.{halve_begin, halve_on, halve_long, halve_end, all_days}
 use Rattle.day_marks.proofs.fits_days.Goals as goal
 
 pub returns-then-days-ge64 : goal.returns-then-days-ge64

@@ -1,5 +1,5 @@
 -- A word of marks halved as often as there are days left is none where it has no mark beyond them. Assumes nothing.
-use Rattle.day_marks.proofs.MarkLaws.{Halving, halve_begin, halve_on, halve_long, halve_end, all_days}
+use Rattle.day_marks.proofs.MarkLaws.{Halving}
 use Rattle.day_marks.proofs.fits_days.Given as goal
 
 abbrev pub invariant-loop-marks : goal.invariant-loop-marks

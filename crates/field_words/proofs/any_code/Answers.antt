@@ -1,5 +1,5 @@
 -- The first columns of the wildcard are the wildcard. Assumes nothing.
-use mathlib.Core.Path.{ap, sym, ◌∙◌}
+use mathlib.Core.Path.{ap, ◌∙◌}
 use Rattle.iff.specs.Values.{code_of}
 use Rattle.field_words.proofs.WildLaws.{wild_front, wild_length}
 use Rattle.field_words.proofs.any_code.Goals as goal

@@ -1,9 +1,8 @@
 -- `fields::all_blank` meets its contract: an instance of the laws of one test of all bytes. Assumes nothing.
-use Prim.Native.Nat.{◌-◌}
 use mathlib.Core.Path.{refl, sym}
 use borrow.Author.Rules.{rules}
 use borrow.Author.Tests.{eq-eqb, ne_eqb}
-use Rattle.text.proofs.PictureLaws.{Held, breaks, holds_on, held_all}
+use Rattle.text.proofs.PictureLaws.{breaks, holds_on, held_all}
 use Rattle.fields.proofs.all_blank.Goals as goal
 
 pub returns-then-field-blanks-ne32 : goal.returns-then-field-blanks-ne32

@@ -3,7 +3,7 @@ use Prim.Native.Nat.{◌-◌}
 use lib.Dec.{eqb}
 use lib.ListN.{length}
 use Rattle.iff.specs.Bytes.{blank}
-use Rattle.text.proofs.PictureLaws.{Held, breaks, holds_on, held_all}
+use Rattle.text.proofs.PictureLaws.{Held}
 use Rattle.fields.proofs.all_blank.Given as goal
 
 abbrev pub invariant-loop-blanks : goal.invariant-loop-blanks

@@ -1,6 +1,6 @@
 -- `fields::fits_picture` meets its contract: an instance of the laws of one test over two lists. Assumes nothing.
 use Rattle.iff.specs.Columns.{column}
-use Rattle.text.proofs.PictureLaws.{Passed, unequal, begins, fails, passes, ended}
+use Rattle.text.proofs.PictureLaws.{Passed}
 use Rattle.fields.proofs.fits_picture.Given as goal
 
 abbrev pub invariant-loop-columns_left : goal.invariant-loop-columns_left

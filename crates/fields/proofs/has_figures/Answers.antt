@@ -2,7 +2,7 @@
 use mathlib.Core.Path.{sym, ◌∙◌}
 use borrow.Author.Rules.{rules}
 use borrow.Author.Tests.{not-true, not-false}
-use Rattle.text.proofs.PictureLaws.{Passed, unequal, begins, fails, passes, ended}
+use Rattle.text.proofs.PictureLaws.{unequal, begins, fails, passes, ended}
 use Rattle.fields.proofs.has_figures.Goals as goal
 
 pub returns-then-line-picture : goal.returns-then-line-picture

@@ -1,6 +1,6 @@
 -- `fields::has_figures` meets its contract: an instance of the laws of one test over two lists. Assumes nothing.
 use Rattle.iff.specs.Columns.{figure}
-use Rattle.text.proofs.PictureLaws.{Passed, unequal, begins, fails, passes, ended}
+use Rattle.text.proofs.PictureLaws.{Passed}
 use Rattle.fields.proofs.has_figures.Given as goal
 
 abbrev pub invariant-loop-figures_left : goal.invariant-loop-figures_left

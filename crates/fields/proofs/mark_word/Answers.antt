@@ -2,7 +2,7 @@
 use mathlib.Core.Path.{◌≡◌, ap, ◌∙◌}
 use Prim.Native.Nat.{ℕ, ◌-◌}
 use lib.ListN.{get_or}
-use Rattle.text.proofs.ValueLaws.{Marked, marked_none, marked_room, marked_fits, marked_next, marked_all}
+use Rattle.text.proofs.ValueLaws.{marked_none, marked_room, marked_fits, marked_next, marked_all}
 use Rattle.fields.proofs.mark_word.Goals as goal
 
 -- what was added is the mark's bit

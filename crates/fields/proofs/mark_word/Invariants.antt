@@ -1,6 +1,5 @@
 -- `fields::mark_word` meets its contract. The loop's invariant: the word is what the marks from i on make, and is below 2 to their number. Assumes nothing.
-use Prim.Native.Nat.{ℕ, ◌-◌}
-use Rattle.text.proofs.ValueLaws.{Marked, marked_none, marked_room, marked_fits, marked_next, marked_all}
+use Rattle.text.proofs.ValueLaws.{Marked}
 use Rattle.fields.proofs.mark_word.Given as goal
 
 abbrev pub invariant-loop-i : goal.invariant-loop-i

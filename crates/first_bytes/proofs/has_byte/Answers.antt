@@ -1,9 +1,8 @@
 -- What is left to look at is the whole. Assumes nothing.
-use Prim.Native.Nat.{◌-◌}
 use mathlib.Core.Path.{refl}
 use borrow.Author.Rules.{rules}
 use borrow.Author.Tests.{eq-eqb, ne_eqb}
-use Rattle.first_bytes.proofs.ByteLaws.{Seeking, finds, finds_none, seeks_on}
+use Rattle.first_bytes.proofs.ByteLaws.{finds, finds_none, seeks_on}
 use Rattle.first_bytes.proofs.has_byte.Goals as goal
 
 pub returns-then-b-bytes : goal.returns-then-b-bytes

@@ -2,7 +2,7 @@
 use Prim.Native.Nat.{◌-◌}
 use lib.Dec.{eqb}
 use lib.ListN.{length}
-use Rattle.first_bytes.proofs.ByteLaws.{Seeking, finds, finds_none, seeks_on}
+use Rattle.first_bytes.proofs.ByteLaws.{Seeking}
 use Rattle.first_bytes.proofs.has_byte.Given as goal
 
 abbrev pub invariant-loop-i : goal.invariant-loop-i

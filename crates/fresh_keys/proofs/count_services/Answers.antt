@@ -1,5 +1,4 @@
 -- `count_services` meets its contract: the rows read, those of them that begin a block, and those that are left. Assumes nothing.
-use Prim.Native.Nat.{◌-◌}
 use mathlib.Core.Path.{◌∙◌}
 use native.Mathlib.Nat.{div-le_self}
 use native.Mathlib.Omega.{arith}
@@ -11,7 +10,7 @@ use Rattle.iff.specs.Tables.{row_width}
 use Rattle.iff.specs.declared.File.TheVariants.{Timetbls}
 use Rattle.tables.proofs.Rows.{row_in_table}
 use Rattle.tables.proofs.Rest.{rest_none, rest_unused, rest_row}
-use Rattle.fresh_keys.proofs.CountLaws.{Reading, none_read, all_read, one_read, one_small}
+use Rattle.fresh_keys.proofs.CountLaws.{none_read, all_read, one_read, one_small}
 use Rattle.fresh_keys.proofs.count_services.Goals as goal
 
 pub loop-i-init : goal.loop-i-init

@@ -1,5 +1,5 @@
 -- `fresh_texts::fresh_texts` meets its contract. Assumes nothing.
-use mathlib.Core.Path.{◌≡◌, sym, ◌∙◌}
+use mathlib.Core.Path.{sym, ◌∙◌}
 use Rattle.iff.specs.Lines.{lines}
 use Rattle.fresh_texts.specs.Texts.{as_line}
 use Rattle.fresh_texts.proofs.TextLaws.{fresh_none}

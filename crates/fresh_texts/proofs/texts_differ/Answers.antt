@@ -1,10 +1,9 @@
 -- `fresh_texts::texts_differ` meets its contract. The loop's invariant: what is left to look at is the whole. Assumes nothing.
-use Prim.Native.Nat.{◌-◌}
-use mathlib.Core.Path.{◌≡◌, refl}
+use mathlib.Core.Path.{refl}
 use native.Mathlib.Omega.{arith}
 use borrow.Author.Rules.{rules}
 use Rattle.fresh_texts.specs.Texts.{as_line}
-use Rattle.fresh_texts.proofs.TextLaws.{Unshared, unshared_end, shared, not_shared}
+use Rattle.fresh_texts.proofs.TextLaws.{unshared_end, shared, not_shared}
 use Rattle.fresh_texts.proofs.texts_differ.Goals as goal
 
 pub returns-then-same_texts : goal.returns-then-same_texts

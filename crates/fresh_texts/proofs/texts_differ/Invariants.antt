@@ -2,7 +2,7 @@
 use Prim.Native.Nat.{◌-◌}
 use lib.ListN.{length}
 use Rattle.fresh_texts.specs.Texts.{as_line}
-use Rattle.fresh_texts.proofs.TextLaws.{Unshared, unshared_end, shared, not_shared}
+use Rattle.fresh_texts.proofs.TextLaws.{Unshared}
 use Rattle.fresh_texts.proofs.texts_differ.Given as goal
 
 abbrev pub invariant-loop-at : goal.invariant-loop-at

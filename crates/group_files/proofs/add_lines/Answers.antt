@@ -1,10 +1,9 @@
 -- `group_files::add_lines` meets its contract. What is left of the lines is the whole: the laws of the walk say so at the start, a line further,
 -- and at each way out. Assumes nothing.
-use Prim.Native.Nat.{◌-◌}
-use mathlib.Core.Path.{◌≡◌, refl, sym, ◌∙◌}
+use mathlib.Core.Path.{refl, sym, ◌∙◌}
 use native.Mathlib.Omega.{arith}
 use borrow.Author.Tests.{not-true, not-false}
-use Rattle.group_files.proofs.WalkLaws.{Walk, walk_start, walk_count, walk_next, walk_beside}
+use Rattle.group_files.proofs.WalkLaws.{walk_start, walk_count, walk_next, walk_beside}
 use Rattle.group_files.proofs.WalkLaws.{walk_early, walk_refused, walk_goes, walk_short, walk_ends}
 use Rattle.group_files.proofs.add_lines.Goals as goal
 

@@ -1,10 +1,10 @@
 -- `group_files::add_lines` meets its contract. What is left of the lines is the whole: the laws of the walk say so at the start, a line further,
 -- and at each way out. Assumes nothing.
 use Prim.Native.Nat.{◌-◌}
-use mathlib.Core.Path.{◌≡◌, refl, sym, ◌∙◌}
+use mathlib.Core.Path.{◌≡◌}
 use lib.ListN.{length}
 use Rattle.references.specs.Agree.{GroupKeysAmong}
-use Rattle.group_files.proofs.WalkLaws.{Walk, walk_start, walk_count, walk_next, walk_beside}
+use Rattle.group_files.proofs.WalkLaws.{Walk}
 use Rattle.group_files.proofs.add_lines.Given as goal
 
 abbrev pub invariant-loop-at : goal.invariant-loop-at

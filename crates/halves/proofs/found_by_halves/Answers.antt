@@ -1,5 +1,4 @@
 -- `found_by_halves` meets its contract: the row that is found was tested, and is one of the first rows. Assumes nothing.
-use Prim.Native.Nat.{◌-◌, ◌≤◌, ◌<◌}
 use native.Mathlib.Omega.{arith}
 use Rattle.keys.proofs.Lookup.{key_column}
 use Rattle.keys.proofs.Among.{row_among, row_hit, hit_none}

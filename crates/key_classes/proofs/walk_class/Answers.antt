@@ -1,6 +1,5 @@
 -- `walk_class` meets its contract: before each block, the services of the class that were met are in the set, and none of them came twice. Assumes
 -- nothing.
-use Prim.Native.Nat.{◌-◌}
 use mathlib.Core.Path.{◌∙◌}
 use native.Mathlib.Omega.{arith}
 use Rattle.iff.specs.Tables.{row_width}

@@ -1,9 +1,9 @@
 -- `find_key_in` meets its contract: the first of the rows that are left is the first of all. Assumes nothing.
-use Prim.Native.Nat.{◌<◌, ◌-◌}
-use mathlib.Core.Path.{◌≡◌, refl, sym, ◌∙◌}
+use Prim.Native.Nat.{◌<◌}
+use mathlib.Core.Path.{refl, sym, ◌∙◌}
 use native.Mathlib.Omega.{arith}
 use borrow.Author.Rules.{rules}
-use Rattle.iff.specs.Tables.{keyed, first_row}
+use Rattle.iff.specs.Tables.{keyed}
 use Rattle.tables.proofs.Rows.{row_inside}
 use Rattle.tables.proofs.Search.{search_none, search_unused, search_here, search_on}
 use Rattle.key_rows.proofs.find_key_in.Goals as goal

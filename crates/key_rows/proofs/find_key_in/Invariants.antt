@@ -1,6 +1,6 @@
 -- `find_key_in` meets its contract: the first of the rows that are left is the first of all. Assumes nothing.
-use Prim.Native.Nat.{◌<◌, ◌-◌}
-use mathlib.Core.Path.{◌≡◌, refl, sym, ◌∙◌}
+use Prim.Native.Nat.{◌-◌}
+use mathlib.Core.Path.{◌≡◌}
 use Rattle.iff.specs.Tables.{keyed, first_row}
 use Rattle.tables.proofs.Rest.{rest}
 use Rattle.key_rows.proofs.find_key_in.Given as goal

@@ -1,5 +1,4 @@
 -- `probe` meets its contract: each slot that is passed is neither free nor holds the key. Assumes nothing.
-use Prim.Native.Nat.{◌-◌, ◌≤◌}
 use native.Mathlib.Omega.{arith}
 use Rattle.key_sets.proofs.SetLaws.{one_slot_more, free_met, taken_met, full_met}
 use Rattle.key_sets.proofs.probe.Goals as goal

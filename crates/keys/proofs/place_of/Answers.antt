@@ -1,6 +1,6 @@
 -- `place_of` meets its contract. Assumes nothing.
 use Prim.Native.Nat.{◌-◌, ◌*◌, ◌/◌, ◌%◌}
-use mathlib.Core.Path.{◌≡◌, ap}
+use mathlib.Core.Path.{ap}
 use native.Mathlib.Nat.{mod-lt}
 use native.Mathlib.Omega.{arith}
 use Rattle.keys.specs.Places.{place_of}

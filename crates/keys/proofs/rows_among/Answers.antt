@@ -1,6 +1,6 @@
 -- `rows_among` meets its contract: a product tells what a division would. Assumes nothing.
-use Prim.Native.Nat.{◌*◌, ◌/◌, ◌≤◌}
-use mathlib.Core.Path.{◌≡◌, sym}
+use Prim.Native.Nat.{◌/◌}
+use mathlib.Core.Path.{sym}
 use native.Mathlib.Nat.{le-div_iff_mul-le}
 use native.Mathlib.Omega.{arith}
 use borrow.Author.Tests.{lt-ltb, le-ltb}

@@ -1,7 +1,7 @@
 -- `leg_marks::all_marked` meets its contract: from the last leg down, what is left to ask is the whole. Assumes nothing.
 use mathlib.Core.Path.{refl}
 use borrow.Author.Rules.{rules}
-use Rattle.leg_marks.proofs.MarkLaws.{Down, down_not, down_next, down_all}
+use Rattle.leg_marks.proofs.MarkLaws.{down_not, down_next, down_all}
 use Rattle.leg_marks.proofs.all_marked.Goals as goal
 
 pub returns-then-marks-leg-ne1 : goal.returns-then-marks-leg-ne1

@@ -1,8 +1,8 @@
 -- `leg_marks::mark_legs` meets its contract: the legs from `first` up to `leg` have a mark more. Assumes nothing.
-use Prim.Native.Nat.{◌<◌, ◌-◌}
+use Prim.Native.Nat.{◌<◌}
 use native.Mathlib.Omega.{arith}
 use lib.ListN.{length}
-use Rattle.leg_marks.proofs.MarkLaws.{Marking, marked_twice, marked_all, marking_none, marking_next}
+use Rattle.leg_marks.proofs.MarkLaws.{marked_twice, marked_all, marking_none, marking_next}
 use Rattle.leg_marks.proofs.mark_legs.Goals as goal
 
 pub returns-then-marks-leg-ne0 : goal.returns-then-marks-leg-ne0

@@ -1,6 +1,6 @@
 -- `leg_marks::mark_legs` meets its contract: the legs from `first` up to `leg` have a mark more. Assumes nothing.
-use Prim.Native.Nat.{◌<◌, ◌-◌}
-use Rattle.leg_marks.proofs.MarkLaws.{Marking, marked_twice, marked_all, marking_none, marking_next}
+use Prim.Native.Nat.{◌-◌}
+use Rattle.leg_marks.proofs.MarkLaws.{Marking}
 use Rattle.leg_marks.proofs.mark_legs.Given as goal
 
 abbrev pub invariant-loop-leg : goal.invariant-loop-leg

@@ -3,7 +3,7 @@ use Prim.Native.Nat.{◌-◌}
 use mathlib.Core.Path.{refl}
 use native.Mathlib.Omega.{arith}
 use lib.ListN.{length}
-use Rattle.line_counts.proofs.EndLaws.{Counting, counts_on, counted_all, none_counted}
+use Rattle.line_counts.proofs.EndLaws.{counts_on, counted_all, none_counted}
 use Rattle.line_counts.proofs.count_lines.Goals as goal
 
 pub returns-then-text-eq0 : goal.returns-then-text-eq0

@@ -1,7 +1,6 @@
 -- `line_counts::ends_in` meets its contract: the ends counted and those from i on are all. Assumes nothing.
-use Prim.Native.Nat.{◌-◌}
 use native.Mathlib.Omega.{arith}
-use Rattle.line_counts.proofs.EndLaws.{Running, runs_start, runs_on_lem, runs_end}
+use Rattle.line_counts.proofs.EndLaws.{runs_start, runs_on_lem, runs_end}
 use Rattle.line_counts.proofs.ends_in.Goals as goal
 
 pub loop-i-init : goal.loop-i-init

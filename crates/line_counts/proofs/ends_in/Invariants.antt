@@ -1,6 +1,6 @@
 -- `line_counts::ends_in` meets its contract: the ends counted and those from i on are all. Assumes nothing.
 use Prim.Native.Nat.{◌-◌}
-use Rattle.line_counts.proofs.EndLaws.{Running, runs_start, runs_on_lem, runs_end}
+use Rattle.line_counts.proofs.EndLaws.{Running}
 use Rattle.line_counts.proofs.ends_in.Given as goal
 
 abbrev pub invariant-loop-i : goal.invariant-loop-i

@@ -1,5 +1,4 @@
 -- `linked_legs::are_all_linked` meets its contract: what is left is the whole, of each test. Assumes nothing.
-use Prim.Native.Nat.{◌-◌}
 use mathlib.Core.Path.{sym, ◌∙◌}
 use borrow.Author.Tests.{not-true, not-false, eq-eqb, ne_eqb}
 use Rattle.iff.specs.Bytes.{percent, dash, ampersand}
@@ -8,7 +7,7 @@ use Rattle.iff.specs.declared.File.TheVariants.{Timetbls}
 use Rattle.iff_rules.specs.Legs.{reach_of, in_range}
 use Rattle.tables.proofs.Rows.{row_inside}
 use Rattle.linked_legs.proofs.RowLaws.{all_none, all_not, all_on}
-use Rattle.linked_legs.proofs.LinkingLaws.{linked_none, linked_not, linked_on, Linking, linking_first}
+use Rattle.linked_legs.proofs.LinkingLaws.{linked_none, linked_not, linked_on, linking_first}
 use Rattle.linked_legs.proofs.LinkingLaws.{range_fails, numbers_fail, validities_fail, modes_fail, all_hold}
 use Rattle.linked_legs.proofs.are_all_linked.Goals as goal
 

@@ -1,6 +1,6 @@
 -- `linked_legs::are_all_linked` meets its contract: what is left is the whole, of each test. Assumes nothing.
 use Prim.Native.Nat.{◌-◌}
-use Rattle.linked_legs.proofs.LinkingLaws.{linked_none, linked_not, linked_on, Linking, linking_first}
+use Rattle.linked_legs.proofs.LinkingLaws.{Linking}
 use Rattle.linked_legs.proofs.are_all_linked.Given as goal
 
 abbrev pub invariant-loop-i : goal.invariant-loop-i

@@ -1,6 +1,5 @@
 -- `linked_legs::are_linked` meets its contract: what is left, from the stop come to, is the whole. Assumes nothing.
-use Prim.Native.Nat.{◌-◌}
-use mathlib.Core.Path.{◌≡◌, refl, sym, ◌∙◌}
+use mathlib.Core.Path.{refl, sym, ◌∙◌}
 use Rattle.iff.specs.Tables.{row_width}
 use Rattle.iff.specs.declared.File.TheVariants.{Timetbls}
 use Rattle.tables.proofs.Rows.{row_inside}

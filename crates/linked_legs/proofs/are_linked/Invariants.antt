@@ -1,6 +1,6 @@
 -- `linked_legs::are_linked` meets its contract: what is left, from the stop come to, is the whole. Assumes nothing.
 use Prim.Native.Nat.{◌-◌}
-use mathlib.Core.Path.{◌≡◌, refl, sym, ◌∙◌}
+use mathlib.Core.Path.{◌≡◌}
 use Rattle.linked_legs.specs.Links.{block_between, linked}
 use Rattle.linked_legs.proofs.are_linked.Given as goal
 

@@ -1,5 +1,4 @@
 -- `found_by_blocks` meets its contract: the row that is found was tested, and is one of the first rows. Assumes nothing.
-use Prim.Native.Nat.{◌-◌, ◌<◌}
 use mathlib.Core.Path.{refl}
 use native.Mathlib.Omega.{arith}
 use Rattle.iff.specs.Tables.{row_width, key_tag, key_word}

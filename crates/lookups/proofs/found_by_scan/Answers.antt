@@ -1,6 +1,5 @@
 -- `found_by_scan` meets its contract: the row that is found was tested, and at the end none is left. Assumes nothing.
-use Prim.Native.Nat.{◌-◌}
-use mathlib.Core.Path.{◌≡◌, refl, ◌∙◌}
+use mathlib.Core.Path.{refl, ◌∙◌}
 use Rattle.iff.specs.Tables.{keyed}
 use Rattle.keys.proofs.Blocks.{none_left, one_on}
 use Rattle.keys.proofs.Lookup.{key_column}

@@ -1,6 +1,6 @@
 -- `found_by_scan` meets its contract: the row that is found was tested, and at the end none is left. Assumes nothing.
 use Prim.Native.Nat.{◌-◌}
-use mathlib.Core.Path.{◌≡◌, refl, ◌∙◌}
+use mathlib.Core.Path.{◌≡◌}
 use Rattle.iff.specs.Lists.{any}
 use Rattle.iff.specs.Tables.{keyed}
 use Rattle.keys.specs.Blocks.{rows_between}

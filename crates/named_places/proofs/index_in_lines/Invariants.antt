@@ -1,6 +1,6 @@
 -- `index_in_lines` meets its contract: each line is gone through once, and no slot is added. Assumes nothing.
 use Prim.Native.Nat.{◌-◌}
-use mathlib.Core.Path.{◌≡◌, refl}
+use mathlib.Core.Path.{◌≡◌}
 use lib.ListN.{length}
 use Rattle.named_places.proofs.index_in_lines.Given as goal
 

@@ -1,8 +1,7 @@
 -- `index_in_rows` meets its contract: each row that is read is one of the first rows, no slot is added, and none is changed before a service is asked
 -- for. Assumes nothing.
-use Prim.Native.Nat.{◌-◌}
-use mathlib.Core.Path.{◌≡◌, refl, sym, ◌∙◌}
-use mathlib.Core.Bool.{false, true≢false}
+use mathlib.Core.Path.{refl, sym, ◌∙◌}
+use mathlib.Core.Bool.{true≢false}
 use native.Mathlib.Omega.{arith}
 use Rattle.keys.proofs.Among.{row_among}
 use Rattle.named_places.proofs.index_in_rows.Goals as goal

@@ -1,6 +1,6 @@
 -- `pair_in` meets its contract: what is left has the same first pair as the whole. Assumes nothing.
 use Prim.Native.Nat.{◌-◌}
-use mathlib.Core.Path.{◌≡◌, refl, ap, sym, ◌∙◌}
+use mathlib.Core.Path.{◌≡◌}
 use Rattle.iff.specs.Lists.{kept}
 use Rattle.iff.specs.Tables.{group_width}
 use Rattle.iff.specs.declared.GroupFile.TheVariants.{Changes}

@@ -1,6 +1,5 @@
 -- `period_in` meets its contract: the first row that holds the day. Assumes nothing.
-use Prim.Native.Nat.{◌-◌}
-use mathlib.Core.Path.{◌≡◌, refl}
+use mathlib.Core.Path.{refl}
 use Rattle.iff_desk.specs.Store.{holds}
 use Rattle.tables.proofs.Rows.{row_inside}
 use Rattle.store.proofs.KeptLaws.{row_none, row_here_lem, row_past}

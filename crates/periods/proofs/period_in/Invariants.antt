@@ -1,6 +1,6 @@
 -- `period_in` meets its contract: the first row that holds the day. Assumes nothing.
 use Prim.Native.Nat.{◌-◌}
-use mathlib.Core.Path.{◌≡◌, refl}
+use mathlib.Core.Path.{◌≡◌}
 use mathlib.Core.List.{[]}
 use lib.ListN.{get_or}
 use Rattle.iff.specs.Lists.{kept}

@@ -1,6 +1,5 @@
 -- `index_asked` meets its contract: each row that is read is one of the first rows, and no slot is added. Assumes nothing.
-use Prim.Native.Nat.{◌-◌}
-use mathlib.Core.Path.{◌≡◌, refl}
+use mathlib.Core.Path.{refl}
 use native.Mathlib.Omega.{arith}
 use Rattle.keys.proofs.Among.{row_among}
 use Rattle.places.proofs.index_asked.Goals as goal

@@ -1,8 +1,6 @@
 -- `index_rows` meets its contract: each row that is read is one of the first rows, and no slot is added. Assumes nothing.
-use Prim.Native.Nat.{◌-◌}
-use mathlib.Core.Path.{◌≡◌, refl, ap}
+use mathlib.Core.Path.{refl}
 use native.Mathlib.Omega.{arith}
-use lib.ListN.{length}
 use Rattle.keys.proofs.Lookup.{key_column}
 use Rattle.keys.proofs.Among.{row_among}
 use Rattle.places.proofs.index_rows.Goals as goal

@@ -1,6 +1,6 @@
 -- `index_rows` meets its contract: each row that is read is one of the first rows, and no slot is added. Assumes nothing.
 use Prim.Native.Nat.{◌-◌}
-use mathlib.Core.Path.{◌≡◌, refl, ap}
+use mathlib.Core.Path.{◌≡◌}
 use lib.ListN.{length}
 use Rattle.places.proofs.index_rows.Given as goal
 

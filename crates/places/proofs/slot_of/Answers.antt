@@ -1,5 +1,4 @@
 -- `slot_of` meets its contract: only slots that are there are looked at. Assumes nothing.
-use Prim.Native.Nat.{◌-◌}
 use native.Mathlib.Omega.{arith}
 use Rattle.places.proofs.SlotLaws.{nowhere, stands_at, free_at}
 use Rattle.places.proofs.slot_of.Goals as goal

@@ -1,12 +1,9 @@
 -- `quick_blocks::read_platform` and `quick_blocks::read_stops` meet their contracts. What is left of the text falls; at one place of it a reader of
 -- stops comes before a reader of platforms. The loop's invariant: the lines left do what all lines were to do. Assumes nothing.
-use Prim.Native.Nat.{ℕ, ◌<◌, ◌+◌, ◌*◌, ◌-◌}
-use mathlib.Core.Path.{refl, sym, ◌∙◌}
+use mathlib.Core.Path.{refl, ◌∙◌}
 use native.Mathlib.Omega.{arith}
-use borrow.Author.Rules.{rules}
-use lib.ListN.{length}
 use Rattle.block_lines.specs.Lines.{keys_from}
-use Rattle.quick_blocks.proofs.DriveLaws.{Driving, driving_start, driving_next, goes_further, drivable, first_room, drove_on, drove_stuck, drove_end}
+use Rattle.quick_blocks.proofs.DriveLaws.{driving_start, driving_next, goes_further, drivable, first_room, drove_on, drove_stuck, drove_end}
 use Rattle.quick_blocks.proofs.+read_platform_read_stops.Goals as goal
 
 pub read_platform-overflow_add-number : goal.read_platform-overflow_add-number
@@ -59,7 +56,7 @@ read_stops-overflow_add-number t c = omega (arith, c.loop-at-test.true, c.loop-a
 
 pub read_stops-read_platform-requires : goal.read_stops-read_platform-requires
 read_stops-read_platform-requires t c = (
-  omega (arith, c.requires.0, c.loop-at.invariant.reading, c.loop-at-test.true),
+  omega (arith, c.loop-at.invariant.reading, c.loop-at-test.true),
   (c.loop-at-test.true, drivable _ _ _ _ _ _ _ _ _ _ c.requires _ _ _ _ c.loop-at.invariant),
 )
 

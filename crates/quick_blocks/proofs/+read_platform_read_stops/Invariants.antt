@@ -1,12 +1,9 @@
 -- `quick_blocks::read_platform` and `quick_blocks::read_stops` meet their contracts. What is left of the text falls; at one place of it a reader of
 -- stops comes before a reader of platforms. The loop's invariant: the lines left do what all lines were to do. Assumes nothing.
-use Prim.Native.Nat.{ℕ, ◌<◌, ◌+◌, ◌*◌, ◌-◌}
-use mathlib.Core.Path.{refl, sym, ◌∙◌}
-use native.Mathlib.Omega.{arith}
-use borrow.Author.Rules.{rules}
+use Prim.Native.Nat.{◌+◌, ◌*◌, ◌-◌}
 use lib.ListN.{length}
 use Rattle.block_lines.specs.Lines.{keys_from}
-use Rattle.quick_blocks.proofs.DriveLaws.{Driving, driving_start, driving_next, goes_further, drivable, first_room, drove_on, drove_stuck, drove_end}
+use Rattle.quick_blocks.proofs.DriveLaws.{Driving}
 use Rattle.quick_blocks.proofs.+read_platform_read_stops.Given as goal
 
 abbrev pub decreases-read_platform : goal.decreases-read_platform

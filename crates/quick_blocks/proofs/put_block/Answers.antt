@@ -1,5 +1,5 @@
 -- `quick_blocks::put_block` meets its contract: each way out is one of the laws of a whole block. Assumes nothing.
-use mathlib.Core.Path.{◌≡◌, refl, sym, ◌∙◌}
+use mathlib.Core.Path.{refl}
 use borrow.Author.Tests.{not-false}
 use Rattle.quick_blocks.proofs.WholeLaws.{whole_drivable, left_kept, left_driven, block_of_stops, whole_put}
 use Rattle.quick_blocks.proofs.put_block.Goals as goal

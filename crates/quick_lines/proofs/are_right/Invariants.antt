@@ -1,5 +1,5 @@
 -- `quick_lines::are_right` meets its contract: an instance of the laws of one test over two lists. Assumes nothing.
-use Rattle.text.proofs.PictureLaws.{Passed, unequal, begins, fails, passes, ended}
+use Rattle.text.proofs.PictureLaws.{Passed}
 use Rattle.quick_lines.specs.Pictures.{right}
 use Rattle.quick_lines.proofs.are_right.Given as goal
 

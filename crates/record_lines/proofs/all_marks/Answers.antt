@@ -1,9 +1,8 @@
 -- An instance of the laws of one test of all bytes. Assumes nothing.
-use Prim.Native.Nat.{◌-◌}
 use mathlib.Core.Path.{refl, sym, ◌∙◌}
 use borrow.Author.Rules.{rules}
 use borrow.Author.Tests.{not-true, not-false}
-use Rattle.text.proofs.PictureLaws.{Held, breaks, holds_on, held_all}
+use Rattle.text.proofs.PictureLaws.{breaks, holds_on, held_all}
 use Rattle.record_lines.proofs.all_marks.Goals as goal
 
 pub returns-then-not-is_mark : goal.returns-then-not-is_mark

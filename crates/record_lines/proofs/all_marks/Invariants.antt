@@ -2,7 +2,7 @@
 use Prim.Native.Nat.{◌-◌}
 use lib.ListN.{length}
 use Rattle.iff.specs.Bytes.{zero_or_one}
-use Rattle.text.proofs.PictureLaws.{Held, breaks, holds_on, held_all}
+use Rattle.text.proofs.PictureLaws.{Held}
 use Rattle.record_lines.proofs.all_marks.Given as goal
 
 abbrev pub invariant-loop-marks : goal.invariant-loop-marks

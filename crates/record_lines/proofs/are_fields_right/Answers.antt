@@ -1,9 +1,8 @@
 -- What is left to test is the whole. Assumes nothing.
-use Prim.Native.Nat.{◌-◌}
 use mathlib.Core.Path.{sym, ◌∙◌}
 use borrow.Author.Rules.{rules}
 use borrow.Author.Tests.{not-true, not-false}
-use Rattle.record_lines.proofs.ColumnLaws.{Testing, test_begin, test_inside, test_fails, test_on, test_end}
+use Rattle.record_lines.proofs.ColumnLaws.{test_begin, test_inside, test_fails, test_on, test_end}
 use Rattle.record_lines.proofs.are_fields_right.Goals as goal
 
 pub returns-then-not-is_field_right : goal.returns-then-not-is_field_right

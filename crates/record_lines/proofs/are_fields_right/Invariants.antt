@@ -1,6 +1,6 @@
 -- What is left to test is the whole. Assumes nothing.
 use Prim.Native.Nat.{◌-◌}
-use Rattle.record_lines.proofs.ColumnLaws.{Testing, test_begin, test_inside, test_fails, test_on, test_end}
+use Rattle.record_lines.proofs.ColumnLaws.{Testing}
 use Rattle.record_lines.proofs.are_fields_right.Given as goal
 
 abbrev pub invariant-loop-j : goal.invariant-loop-j

@@ -1,9 +1,8 @@
 -- As long as there are days, and allowed bytes. Assumes nothing.
-use Prim.Native.Nat.{◌-◌}
 use mathlib.Core.Path.{refl, sym, ◌∙◌}
 use borrow.Author.Rules.{rules}
 use borrow.Author.Tests.{not-true, not-false}
-use Rattle.text.proofs.PictureLaws.{Held, breaks, holds_on, held_all}
+use Rattle.text.proofs.PictureLaws.{breaks, holds_on, held_all}
 use Rattle.records.proofs.VectorLaws.{fits_allowed, fits_not}
 use Rattle.record_lines.proofs.fits_days.Goals as goal
 

@@ -2,7 +2,7 @@
 use Prim.Native.Nat.{◌-◌}
 use lib.ListN.{length}
 use Rattle.iff.specs.Bytes.{allowed}
-use Rattle.text.proofs.PictureLaws.{Held, breaks, holds_on, held_all}
+use Rattle.text.proofs.PictureLaws.{Held}
 use Rattle.record_lines.proofs.fits_days.Given as goal
 
 abbrev pub invariant-loop-i : goal.invariant-loop-i

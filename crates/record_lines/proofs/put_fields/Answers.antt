@@ -1,9 +1,8 @@
 -- What is left to put is what the fields that are left leave. Assumes nothing.
-use Prim.Native.Nat.{◌-◌}
 use mathlib.Core.Path.{◌∙◌}
 use borrow.Author.Rules.{rules}
 use lib.ListN.{length}
-use Rattle.record_lines.proofs.ColumnLaws.{Putting, put_begin, put_inside, put_on, put_end}
+use Rattle.record_lines.proofs.ColumnLaws.{put_begin, put_inside, put_on, put_end}
 use Rattle.records.proofs.RowLaws.{cleared_length}
 use Rattle.record_lines.proofs.put_fields.Goals as goal
 

@@ -1,6 +1,6 @@
 -- What is left to put is what the fields that are left leave. Assumes nothing.
 use Prim.Native.Nat.{◌-◌}
-use Rattle.record_lines.proofs.ColumnLaws.{Putting, put_begin, put_inside, put_on, put_end}
+use Rattle.record_lines.proofs.ColumnLaws.{Putting}
 use Rattle.record_lines.proofs.put_fields.Given as goal
 
 abbrev pub invariant-loop-j : goal.invariant-loop-j

@@ -1,8 +1,7 @@
 -- What is left to put are the words of the marks that are left. Assumes nothing.
-use Prim.Native.Nat.{◌-◌}
 use mathlib.Core.Path.{◌∙◌}
 use lib.ListN.{length}
-use Rattle.records.proofs.VectorLaws.{Marking, mark_begin, mark_on, mark_end}
+use Rattle.records.proofs.VectorLaws.{mark_begin, mark_on, mark_end}
 use Rattle.records.proofs.RowLaws.{cleared_length}
 use Rattle.record_lines.proofs.put_marks.Goals as goal
 

@@ -1,7 +1,7 @@
 -- What is left to put are the words of the marks that are left. Assumes nothing.
 use Prim.Native.Nat.{◌-◌}
 use Rattle.iff.specs.Values.{vector_width}
-use Rattle.records.proofs.VectorLaws.{Marking, mark_begin, mark_on, mark_end}
+use Rattle.records.proofs.VectorLaws.{Marking}
 use Rattle.record_lines.proofs.put_marks.Given as goal
 
 abbrev pub invariant-loop-i : goal.invariant-loop-i

@@ -1,5 +1,4 @@
 -- `first_repeat` meets its contract: no service before the first that came before, of the classes that were asked, came before. Assumes nothing.
-use Prim.Native.Nat.{◌-◌}
 use native.Mathlib.Omega.{arith}
 use Rattle.iff.specs.declared.File.TheVariants.{Timetbls}
 use Rattle.keys.specs.Lookup.{keys_among}

@@ -1,5 +1,5 @@
 -- `are_zero` meets its contract: its tests are the definition's, in order. Assumes nothing.
-use mathlib.Core.Bool.{true, and-true}
+use mathlib.Core.Bool.{and-true}
 use borrow.Author.Tests.{eq-eqb, ne_eqb}
 use Rattle.row_kinds.proofs.are_zero.Goals as goal
 

@@ -1,6 +1,6 @@
 -- `row_legs::are_in_range` meets its contract: what is left to ask is the whole. Assumes nothing.
 use Prim.Native.Nat.{◌-◌}
-use mathlib.Core.Path.{◌≡◌, refl, sym, ◌∙◌}
+use mathlib.Core.Path.{◌≡◌}
 use Rattle.iff.specs.Lists.{all}
 use Rattle.iff_rules.specs.Legs.{reach_of, in_range}
 use Rattle.linked_legs.specs.Links.{block_between}

@@ -1,7 +1,6 @@
 -- `row_legs::mark_rows` meets its contract: the marks set and those that the rows left will set are all. Assumes nothing.
-use Prim.Native.Nat.{◌-◌}
 use borrow.Author.Tests.{not-true, not-false}
-use Rattle.row_legs.proofs.WalkLaws.{MarkingRows, marking_first, markable, marked_twice, marked_next, all_marked}
+use Rattle.row_legs.proofs.WalkLaws.{marking_first, markable, marked_twice, marked_next, all_marked}
 use Rattle.row_legs.proofs.mark_rows.Goals as goal
 
 pub mark_at-requires : goal.mark_at-requires

@@ -1,6 +1,6 @@
 -- `row_legs::mark_rows` meets its contract: the marks set and those that the rows left will set are all. Assumes nothing.
 use Prim.Native.Nat.{◌-◌}
-use Rattle.row_legs.proofs.WalkLaws.{MarkingRows, marking_first, markable, marked_twice, marked_next, all_marked}
+use Rattle.row_legs.proofs.WalkLaws.{MarkingRows}
 use Rattle.row_legs.proofs.mark_rows.Given as goal
 
 abbrev pub invariant-loop-i : goal.invariant-loop-i

@@ -1,5 +1,5 @@
 -- What is left of the limit has room for the lines that are left exactly where all fit. Assumes nothing.
-use Prim.Native.Nat.{◌-◌, ◌+◌, ◌<◌}
+use Prim.Native.Nat.{◌+◌, ◌<◌}
 use mathlib.Core.Path.{◌≡◌}
 use mathlib.Core.Bool.{false}
 use native.Mathlib.Omega.{arith}
@@ -12,7 +12,7 @@ use Rattle.iff_desk.specs.Sound.{row_size, first_size}
 use Rattle.keys.specs.Blocks.{rows_between}
 use Rattle.tables.proofs.Rows.{row_inside}
 use Rattle.row_sizes.proofs.LineLaws.{line_length}
-use Rattle.row_sizes.proofs.SizeLaws.{Counting, count_begin, count_on, count_fails, count_end, line_of}
+use Rattle.row_sizes.proofs.SizeLaws.{count_begin, count_on, count_fails, count_end, line_of}
 use Rattle.row_sizes.proofs.fit_one_by_one.Goals as goal
 
 pub word_at-tag-requires : goal.word_at-tag-requires

@@ -1,6 +1,6 @@
 -- What is left of the limit has room for the lines that are left exactly where all fit. Assumes nothing.
-use Prim.Native.Nat.{◌-◌, ◌+◌, ◌<◌}
-use Rattle.row_sizes.proofs.SizeLaws.{Counting, count_begin, count_on, count_fails, count_end, line_of}
+use Prim.Native.Nat.{◌-◌}
+use Rattle.row_sizes.proofs.SizeLaws.{Counting}
 use Rattle.row_sizes.proofs.fit_one_by_one.Given as goal
 
 abbrev pub invariant-loop-i : goal.invariant-loop-i

@@ -1,8 +1,7 @@
 -- `count_stops` meets its contract: those counted and those of the rows that are left are all. Assumes nothing.
-use Prim.Native.Nat.{◌-◌}
 use native.Mathlib.Omega.{arith}
 use Rattle.tables.proofs.Rows.{row_inside}
-use Rattle.service_rows.proofs.StopLaws.{Counting, none_counted, all_counted, one_counted, other_passed}
+use Rattle.service_rows.proofs.StopLaws.{none_counted, all_counted, one_counted, other_passed}
 use Rattle.service_rows.proofs.count_stops.Goals as goal
 
 pub is_stop_at-requires : goal.is_stop_at-requires

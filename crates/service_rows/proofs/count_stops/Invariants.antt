@@ -2,7 +2,7 @@
 use Prim.Native.Nat.{◌-◌}
 use Rattle.iff.specs.Tables.{row_width}
 use Rattle.iff.specs.declared.File.TheVariants.{Timetbls}
-use Rattle.service_rows.proofs.StopLaws.{Counting, none_counted, all_counted, one_counted, other_passed}
+use Rattle.service_rows.proofs.StopLaws.{Counting}
 use Rattle.service_rows.proofs.count_stops.Given as goal
 
 abbrev pub invariant-loop-i : goal.invariant-loop-i

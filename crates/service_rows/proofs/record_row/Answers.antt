@@ -1,6 +1,5 @@
 -- `record_row` meets its contract: the first row of its kind that the leg lies in. Assumes nothing.
-use Prim.Native.Nat.{◌-◌}
-use mathlib.Core.Path.{◌≡◌, refl}
+use mathlib.Core.Path.{refl}
 use Rattle.tables.proofs.Rows.{row_inside}
 use Rattle.store.proofs.KeptLaws.{row_none, row_here_lem, row_past}
 use Rattle.service_rows.specs.Lies.{lies_in}

@@ -1,6 +1,6 @@
 -- `record_row` meets its contract: the first row of its kind that the leg lies in. Assumes nothing.
 use Prim.Native.Nat.{◌-◌}
-use mathlib.Core.Path.{◌≡◌, refl}
+use mathlib.Core.Path.{◌≡◌}
 use mathlib.Core.List.{[]}
 use lib.ListN.{get_or}
 use Rattle.iff.specs.Lists.{kept}

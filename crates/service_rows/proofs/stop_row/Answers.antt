@@ -1,6 +1,5 @@
 -- `stop_row` meets its contract: as many stops are passed as stand before it. Assumes nothing.
-use Prim.Native.Nat.{◌-◌}
-use Rattle.iff.specs.Tables.{row_width, tag}
+use Rattle.iff.specs.Tables.{tag}
 use Rattle.iff_rules.specs.Order.{is_stop}
 use Rattle.tables.proofs.Rows.{row_inside}
 use Rattle.store.proofs.KeptLaws.{row_none, row_here_lem, row_next, row_past}

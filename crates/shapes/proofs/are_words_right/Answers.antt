@@ -1,9 +1,8 @@
 -- What is left to test is the whole. Assumes nothing.
-use Prim.Native.Nat.{◌-◌}
 use mathlib.Core.Path.{sym, ◌∙◌}
 use borrow.Author.Rules.{rules}
 use borrow.Author.Tests.{not-true, not-false}
-use Rattle.shapes.proofs.WordLaws.{Walking, walk_begin, walk_fails, walk_on, walk_end}
+use Rattle.shapes.proofs.WordLaws.{walk_begin, walk_fails, walk_on, walk_end}
 use Rattle.shapes.proofs.are_words_right.Goals as goal
 
 pub returns-then-not-fits_field : goal.returns-then-not-fits_field

@@ -1,6 +1,6 @@
 -- What is left to test is the whole. Assumes nothing.
 use Prim.Native.Nat.{◌-◌}
-use Rattle.shapes.proofs.WordLaws.{Walking, walk_begin, walk_fails, walk_on, walk_end}
+use Rattle.shapes.proofs.WordLaws.{Walking}
 use Rattle.shapes.proofs.are_words_right.Given as goal
 
 abbrev pub invariant-loop-j : goal.invariant-loop-j

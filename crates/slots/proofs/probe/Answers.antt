@@ -1,5 +1,4 @@
 -- `probe` meets its contract: each slot that is passed is neither free nor a row of the key. Assumes nothing.
-use Prim.Native.Nat.{◌-◌, ◌≤◌}
 use native.Mathlib.Omega.{arith}
 use borrow.Author.Rules.{rules}
 use Rattle.keys.proofs.Lookup.{key_column}

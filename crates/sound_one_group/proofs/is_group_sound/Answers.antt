@@ -1,9 +1,8 @@
 -- `is_group_sound` meets its contract: what is left of the group passes exactly when the whole does. Assumes nothing.
-use Prim.Native.Nat.{◌-◌}
-use mathlib.Core.Path.{◌≡◌, refl, ◌∙◌}
+use mathlib.Core.Path.{refl, ◌∙◌}
 use borrow.Author.Tests.{not-true, not-false}
 use Rattle.tables.proofs.Rows.{row_inside}
-use Rattle.sound_one_group.proofs.GroupLaws.{RowsWalked, starts, goes_on, breaks, ends}
+use Rattle.sound_one_group.proofs.GroupLaws.{starts, goes_on, breaks, ends}
 use Rattle.sound_one_group.proofs.is_group_sound.Goals as goal
 
 pub loop-i-init : goal.loop-i-init

@@ -1,8 +1,8 @@
 -- `is_group_sound` meets its contract: what is left of the group passes exactly when the whole does. Assumes nothing.
 use Prim.Native.Nat.{◌-◌}
-use mathlib.Core.Path.{◌≡◌, refl, ◌∙◌}
+use mathlib.Core.Path.{◌≡◌}
 use lib.ListN.{length}
-use Rattle.sound_one_group.proofs.GroupLaws.{RowsWalked, starts, goes_on, breaks, ends}
+use Rattle.sound_one_group.proofs.GroupLaws.{RowsWalked}
 use Rattle.sound_one_group.proofs.is_group_sound.Given as goal
 
 abbrev pub invariant-loop-i : goal.invariant-loop-i

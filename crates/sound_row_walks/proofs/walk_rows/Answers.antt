@@ -1,5 +1,5 @@
 -- `walk_rows` meets its contract: what is left of the rows is the whole, wherever the block ends. Assumes nothing.
-use Prim.Native.Nat.{◌-◌, ◌<◌}
+use Prim.Native.Nat.{◌<◌}
 use native.Mathlib.Omega.{arith}
 use borrow.Author.Rules.{rules}
 use Rattle.iff.specs.Tables.{row_width}
@@ -7,7 +7,7 @@ use Rattle.iff.specs.declared.File.TheVariants.{Timetbls}
 use Rattle.tables.proofs.Rows.{row_in_table}
 use Rattle.sound_row_walks.specs.Walk.{used_in}
 use Rattle.sound_row_walks.proofs.UsedLaws.{room_ends, rows_end, row_used}
-use Rattle.sound_row_walks.proofs.WalkLaws.{Walking, walk_starts, walk_ends, walk_stops, walk_falls, walk_goes_on}
+use Rattle.sound_row_walks.proofs.WalkLaws.{walk_starts, walk_ends, walk_stops, walk_falls, walk_goes_on}
 use Rattle.sound_row_walks.proofs.walk_rows.Goals as goal
 
 pub loop-i-init : goal.loop-i-init

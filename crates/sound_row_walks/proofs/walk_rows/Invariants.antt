@@ -1,7 +1,7 @@
 -- `walk_rows` meets its contract: what is left of the rows is the whole, wherever the block ends. Assumes nothing.
-use Prim.Native.Nat.{◌-◌, ◌<◌}
+use Prim.Native.Nat.{◌-◌}
 use Rattle.sound_row_walks.specs.Walk.{used_in}
-use Rattle.sound_row_walks.proofs.WalkLaws.{Walking, walk_starts, walk_ends, walk_stops, walk_falls, walk_goes_on}
+use Rattle.sound_row_walks.proofs.WalkLaws.{Walking}
 use Rattle.sound_row_walks.proofs.walk_rows.Given as goal
 
 abbrev pub invariant-loop-i : goal.invariant-loop-i

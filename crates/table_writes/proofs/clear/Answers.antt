@@ -1,10 +1,10 @@
 -- `clear` meets its contract: zeros up to i, and from there on what was. Assumes nothing.
-use Prim.Native.Nat.{ℕ, ◌≤◌, ◌-◌}
+use Prim.Native.Nat.{ℕ, ◌≤◌}
 use mathlib.Core.Path.{◌≡◌, ap, ◌∙◌}
-use mathlib.Core.List.{List, ◌++◌, append-nil}
+use mathlib.Core.List.{List, append-nil}
 use native.Mathlib.Omega.{arith}
 use borrow.Author.Fill.{fill_more}
-use lib.ListN.{length, replicate, drop, drop_of_length-le, length-set, set}
+use lib.ListN.{length, drop_of_length-le, length-set, set}
 use Rattle.table_writes.proofs.clear.Goals as goal
 
 pub loop-i-preserved : goal.loop-i-preserved

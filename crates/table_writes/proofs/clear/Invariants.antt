@@ -1,8 +1,8 @@
 -- `clear` meets its contract: zeros up to i, and from there on what was. Assumes nothing.
-use Prim.Native.Nat.{ℕ, ◌≤◌, ◌-◌}
-use mathlib.Core.Path.{◌≡◌, ap, ◌∙◌}
-use mathlib.Core.List.{List, ◌++◌, append-nil}
-use lib.ListN.{length, replicate, drop, drop_of_length-le, length-set, set}
+use Prim.Native.Nat.{◌≤◌, ◌-◌}
+use mathlib.Core.Path.{◌≡◌}
+use mathlib.Core.List.{◌++◌}
+use lib.ListN.{length, replicate, drop}
 use Rattle.table_writes.proofs.clear.Given as goal
 
 abbrev pub invariant-loop-i : goal.invariant-loop-i

@@ -1,10 +1,10 @@
 -- `put_row` meets its contract: the first k words of the row are copied. Assumes nothing.
-use Prim.Native.Nat.{◌*◌, ◌≤◌, ◌-◌}
+use Prim.Native.Nat.{◌*◌}
 use mathlib.Core.Path.{◌≡◌, ◌∙◌}
 use native.Mathlib.Omega.{arith}
 use borrow.Author.Rules.{rules}
-use lib.ListN.{length, length-set}
-use lib.Seq.{paste, paste-zero}
+use lib.ListN.{length-set}
+use lib.Seq.{paste-zero}
 use Rattle.table_writes.proofs.Copy.{copy_next, copy_end}
 use Rattle.table_writes.proofs.put_row.Goals as goal
 

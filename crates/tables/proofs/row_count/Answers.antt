@@ -1,11 +1,10 @@
 -- `row_count` meets its contract: i rows are counted, and those that are left. Assumes nothing.
-use Prim.Native.Nat.{◌-◌}
 use native.Mathlib.Nat.{div-le_self}
 use native.Mathlib.Omega.{arith}
 use lib.ListN.{length}
 use borrow.Author.Rules.{rules}
 use Rattle.tables.proofs.Rows.{row_in_table}
-use Rattle.tables.proofs.Rest.{rest_none, rest_unused, rest_row, Counted, count_none, count_end, count_on}
+use Rattle.tables.proofs.Rest.{rest_none, rest_unused, rest_row, count_none, count_end, count_on}
 use Rattle.tables.proofs.row_count.Goals as goal
 
 pub word_at-requires : goal.word_at-requires

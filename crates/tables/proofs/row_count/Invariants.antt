@@ -1,6 +1,6 @@
 -- `row_count` meets its contract: i rows are counted, and those that are left. Assumes nothing.
 use Prim.Native.Nat.{◌-◌}
-use Rattle.tables.proofs.Rest.{rest_none, rest_unused, rest_row, Counted, count_none, count_end, count_on}
+use Rattle.tables.proofs.Rest.{Counted}
 use Rattle.tables.proofs.row_count.Given as goal
 
 abbrev pub invariant-loop-i : goal.invariant-loop-i

@@ -1,6 +1,5 @@
 -- `zero_from` meets its contract: what is left is zero exactly when the whole is. Assumes nothing.
-use Prim.Native.Nat.{◌-◌}
-use mathlib.Core.Path.{◌≡◌, refl, sym, ◌∙◌}
+use mathlib.Core.Path.{refl, sym, ◌∙◌}
 use Rattle.tables.proofs.Zeros.{zero_on, zero_not, zero_end}
 use Rattle.tables.proofs.zero_from.Goals as goal
 

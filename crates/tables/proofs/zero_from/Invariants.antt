@@ -1,6 +1,6 @@
 -- `zero_from` meets its contract: what is left is zero exactly when the whole is. Assumes nothing.
 use Prim.Native.Nat.{◌-◌}
-use mathlib.Core.Path.{◌≡◌, refl, sym, ◌∙◌}
+use mathlib.Core.Path.{◌≡◌}
 use lib.ListN.{length, drop}
 use Rattle.iff.specs.Tables.{all_zero}
 use Rattle.tables.proofs.zero_from.Given as goal

@@ -2,7 +2,7 @@
 use Prim.Native.Nat.{◌-◌}
 use lib.ListN.{length}
 use Rattle.iff.specs.Bytes.{digit}
-use Rattle.text.proofs.PictureLaws.{Held, breaks, holds_on, held_all}
+use Rattle.text.proofs.PictureLaws.{Held}
 use Rattle.text.proofs.all_digits.Given as goal
 
 abbrev pub invariant-loop-digits : goal.invariant-loop-digits

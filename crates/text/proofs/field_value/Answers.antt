@@ -1,8 +1,7 @@
 -- `text::field_value` meets its contract. The loop's invariant: the value so far is below 256 to the bytes read, and the rest counted behind it is the whole. Assumes nothing.
-use Prim.Native.Nat.{◌-◌}
 use native.Mathlib.Omega.{arith}
 use borrow.Author.Rules.{rules}
-use Rattle.text.proofs.ValueLaws.{Valued, valued_end, valued_next, next_fits}
+use Rattle.text.proofs.ValueLaws.{valued_end, valued_next, next_fits}
 use Rattle.text.proofs.field_value.Goals as goal
 
 pub overflow_mul-acc : goal.overflow_mul-acc

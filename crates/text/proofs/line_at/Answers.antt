@@ -1,5 +1,5 @@
 -- `text::line_at` meets its contract. Assumes nothing.
-use mathlib.Core.Path.{◌≡◌, sym, ◌∙◌}
+use mathlib.Core.Path.{sym, ◌∙◌}
 use native.Mathlib.Omega.{arith}
 use Rattle.text.proofs.LineLaws.{span_ended, span_unended}
 use Rattle.text.proofs.line_at.Goals as goal

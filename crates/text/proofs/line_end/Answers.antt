@@ -1,7 +1,6 @@
 -- `text::line_end` meets its contract. The loop's invariant: the line's end lies as far from `at` as what `width` says from i on. Assumes nothing.
-use Prim.Native.Nat.{◌-◌}
 use mathlib.Core.Path.{sym, ◌∙◌}
-use Rattle.text.proofs.LineLaws.{Looking, found, looks_on, not_found}
+use Rattle.text.proofs.LineLaws.{found, looks_on, not_found}
 use Rattle.text.proofs.line_end.Goals as goal
 
 pub returns-then-ends : goal.returns-then-ends

@@ -1,7 +1,7 @@
 -- `text::line_end` meets its contract. The loop's invariant: the line's end lies as far from `at` as what `width` says from i on. Assumes nothing.
 use Prim.Native.Nat.{◌-◌}
 use lib.ListN.{length}
-use Rattle.text.proofs.LineLaws.{Looking, found, looks_on, not_found}
+use Rattle.text.proofs.LineLaws.{Looking}
 use Rattle.text.proofs.line_end.Given as goal
 
 abbrev pub invariant-loop-i : goal.invariant-loop-i

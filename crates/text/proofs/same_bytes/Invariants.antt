@@ -1,6 +1,6 @@
 -- `text::same_bytes` meets its contract: an instance of the laws of one test over two lists. Assumes nothing.
 use lib.Dec.{eqb}
-use Rattle.text.proofs.PictureLaws.{Passed, unequal, begins, fails, passes, ended}
+use Rattle.text.proofs.PictureLaws.{Passed}
 use Rattle.text.proofs.same_bytes.Given as goal
 
 abbrev pub invariant-loop-bytes_left : goal.invariant-loop-bytes_left

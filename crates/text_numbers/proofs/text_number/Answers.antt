@@ -1,6 +1,5 @@
 -- `text_numbers::text_number` meets its contract: what is left, counted behind the number so far, is the whole. Assumes nothing.
-use Prim.Native.Nat.{◌-◌}
-use Rattle.text_numbers.proofs.NumberLaws.{Numbered, numbered_none, numbered_next, numbered_all}
+use Rattle.text_numbers.proofs.NumberLaws.{numbered_none, numbered_next, numbered_all}
 use Rattle.text_numbers.proofs.text_number.Goals as goal
 
 pub loop-i-preserved : goal.loop-i-preserved

@@ -1,7 +1,7 @@
 -- `text_numbers::text_number` meets its contract: what is left, counted behind the number so far, is the whole. Assumes nothing.
 use Prim.Native.Nat.{◌-◌}
 use lib.ListN.{length}
-use Rattle.text_numbers.proofs.NumberLaws.{Numbered, numbered_none, numbered_next, numbered_all}
+use Rattle.text_numbers.proofs.NumberLaws.{Numbered}
 use Rattle.text_numbers.proofs.text_number.Given as goal
 
 abbrev pub invariant-loop-i : goal.invariant-loop-i

@@ -1,9 +1,8 @@
 -- `next_head` meets its contract: the rows that were passed begin no group. Assumes nothing.
-use Prim.Native.Nat.{◌-◌}
 use mathlib.Core.Path.{sym, ◌∙◌}
 use borrow.Author.Tests.{eq-eqb, ne_eqb}
 use Rattle.tables.proofs.Rows.{row_inside}
-use Rattle.walks.proofs.GroupLaws.{Passed, starts, goes_on, stops, ends}
+use Rattle.walks.proofs.GroupLaws.{starts, goes_on, stops, ends}
 use Rattle.walks.proofs.next_head.Goals as goal
 
 pub loop-i-init : goal.loop-i-init

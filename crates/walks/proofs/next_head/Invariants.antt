@@ -1,6 +1,6 @@
 -- `next_head` meets its contract: the rows that were passed begin no group. Assumes nothing.
 use Prim.Native.Nat.{◌-◌}
-use Rattle.walks.proofs.GroupLaws.{Passed, starts, goes_on, stops, ends}
+use Rattle.walks.proofs.GroupLaws.{Passed}
 use Rattle.walks.proofs.next_head.Given as goal
 
 abbrev pub invariant-loop-i : goal.invariant-loop-i

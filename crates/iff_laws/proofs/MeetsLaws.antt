@@ -33,10 +33,10 @@ use Rattle.iff_laws.specs.Meets.{FirstLineMeets, GroupMeets, BlockMeets, RowsMee
 use Rattle.iff_laws.specs.Tests.{test, first_line_tests, second_line_tests, rows_tests, stray_line_tests, group_line_tests, group_tests, hash_line, groups_tests, block_line_tests, block_tests, blocks_tests, later_tests, file_tests, own_context, tests_of, in_turn, contents_tests, length_tests, there, absence_tests, room_tests, tests, FirstFault}
 use Rattle.iff_laws.specs.ScanLaws.{unless_passes, verdict_fine, first_one, append_fine, fine_append, cons_fine, fine_cons, first_fault_lem, along_fine, fine_along}
 use Rattle.iff_laws.specs.ReferenceLaws.{says_company}
-use Rattle.iff_laws.specs.LegLaws.{legs_exactly}
+use Rattle.iff_laws.proofs.LegLaws.{legs_exactly}
 use Rattle.iff_laws.specs.AnswerLaws.{days_written_lem, services_written_lem}
-use Rattle.iff_laws.specs.LineLaws.{seven_fine, first_line_exactly, row_exactly, group_line_exactly, block_line_exactly}
-use Rattle.iff_laws.specs.TestsLaws.{stray_first, load_first}
+use Rattle.iff_laws.proofs.LineLaws.{seven_fine, first_line_exactly, row_exactly, group_line_exactly, block_line_exactly}
+use Rattle.iff_laws.proofs.TestsLaws.{stray_first, load_first}
 
 -- A TEST at a place
 holds : (p : Place) (b : Bool) (r : Reason) → test p b r ≡ Fine → b ≡ true

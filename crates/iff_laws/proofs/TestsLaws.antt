@@ -31,7 +31,7 @@ use Rattle.iff_laws.specs.Places.{line_no, no_group, group_no, header_in, group_
 use Rattle.iff_laws.specs.Tests.{test, seven_tests, asked_of_first, asked_of_row, asked_in_group, asked_in_block, along, second_line_tests, rows_tests, stray_line_tests, group_line_tests, group_tests, hash_line, groups_tests, block_line_tests, block_tests, blocks_tests, later_tests, file_tests, own_context, contents_tests, length_tests, absence_tests, room_tests, tests}
 use Rattle.iff_laws.specs.ScanLaws.{turn, same_turn, last_turn, scan_along}
 use Rattle.iff_laws.specs.TruthLaws.{one_more, same_self}
-use Rattle.iff_laws.specs.LineLaws.{seven_first}
+use Rattle.iff_laws.proofs.LineLaws.{seven_first}
 
 -- what a scan carries, at each place
 after_lines : (es ls : List Line) → after (λ earlier l. earlier ++ (l ∷ [])) es ls ≡ es ++ ls

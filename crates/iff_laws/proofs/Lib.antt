@@ -1,0 +1,4 @@
+pub mod LegLaws
+pub mod LineLaws
+pub mod TestsLaws
+pub mod MeetsLaws
