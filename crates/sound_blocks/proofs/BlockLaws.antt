@@ -6,8 +6,8 @@ use mathlib.Core.Bool.{Bool, true, false, ◌&&◌}
 use native.Mathlib.Omega.{arith}
 use borrow.Author.Tests.{eq-eqb, ne_eqb, ltb-true, ltb-false}
 use lib.Dec.{eqb, ltb}
-use lib.ListN.{length, get_or}
-use Rattle.iff.specs.Lists.{Group, front, groups, all, all_of}
+use lib.ListN.{length}
+use Rattle.iff.specs.Lists.{front, groups, all, all_of}
 use Rattle.iff.specs.Tables.{Row, is_hash_row, row_at, row_width}
 use Rattle.iff.specs.Words.{line_count, stop_count}
 use Rattle.iff.specs.declared.File.TheVariants.{Timetbls}

@@ -31,7 +31,7 @@ clear_blocks-requires c =
 pub add_blocks-again-requires : goal.add_blocks-again-requires
 add_blocks-again-requires c =
     let as_it_was : c.clear_blocks.new.t ≡ c.args.t.now = let a = c.args in
-    alone a.text.now a.from a.t.now a.marks.now c.requires c.add_blocks-walk.last.1.1.1.1.0
+    alone a.text.now a.from a.t.now a.marks.now c.requires c.add_blocks-walk.new.t
     c.add_blocks-walk.auto.t c.add_blocks-walk.ensures.first _ c.clear_blocks.ensures in
     let a = c.args in
     ready_again a.text.now a.from a.t.now a.marks.now c.requires _ _ as_it_was c.add_blocks-walk.auto.marks
@@ -54,13 +54,13 @@ returns-in-First c =
 pub returns-in-Untold : goal.returns-in-Untold
 returns-in-Untold c =
     let as_it_was : c.clear_blocks.new.t ≡ c.args.t.now = let a = c.args in
-    alone a.text.now a.from a.t.now a.marks.now c.requires c.add_blocks-walk.last.1.1.1.1.0
+    alone a.text.now a.from a.t.now a.marks.now c.requires c.add_blocks-walk.new.t
     c.add_blocks-walk.auto.t c.add_blocks-walk.ensures.first _ c.clear_blocks.ensures in
     let a = c.args in
     told_again a.text.now a.from a.t.now a.marks.now c.requires a.form a.counts a.companies.now a.modes.now
-    a.stations.now a.footnotes.now c.clear_blocks.last.0 _ _ as_it_was
+    a.stations.now a.footnotes.now c.clear_blocks.new.t _ _ as_it_was
     (walk_sure a.form a.text.now a.from a.counts a.companies.now a.modes.now a.stations.now a.footnotes.now
-    c.clear_blocks.last.0 _ _ c.add_blocks-again.result c.add_blocks-again.ensures (c.add_blocks-again.ensures.asked refl))
+    c.clear_blocks.new.t _ _ c.add_blocks-again.result c.add_blocks-again.ensures (c.add_blocks-again.ensures.asked refl))
 
 pub shape_of-marks-in-Untold : goal.shape_of-marks-in-Untold
 shape_of-marks-in-Untold c =

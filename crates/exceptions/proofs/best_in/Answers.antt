@@ -1,6 +1,6 @@
 -- `best_in` meets its contract: the best of what is left, after the best so far, is the best of the whole. Assumes nothing.
-use Prim.Native.Nat.{◌+◌, ◌-◌}
-use mathlib.Core.Path.{◌≡◌, refl, ap, sym, ◌∙◌}
+use Prim.Native.Nat.{◌+◌}
+use mathlib.Core.Path.{refl, ap, sym, ◌∙◌}
 use mathlib.Core.Bool.{Bool}
 use Rattle.iff.specs.Lists.{kept}
 use Rattle.iff.specs.Tables.{Row, group_width, rows_in}

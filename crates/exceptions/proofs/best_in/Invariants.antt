@@ -1,8 +1,8 @@
 -- `best_in` meets its contract: the best of what is left, after the best so far, is the best of the whole. Assumes nothing.
-use Prim.Native.Nat.{◌+◌, ◌-◌}
-use mathlib.Core.Path.{◌≡◌, refl, ap, sym, ◌∙◌}
+use Prim.Native.Nat.{◌-◌}
+use mathlib.Core.Path.{◌≡◌}
 use Rattle.iff.specs.Lists.{kept}
-use Rattle.iff.specs.Tables.{Row, group_width, rows_in}
+use Rattle.iff.specs.Tables.{group_width, rows_in}
 use Rattle.iff.specs.declared.GroupFile.TheVariants.{Xfootnote, Xchanges}
 use Rattle.iff.specs.declared.File.TheVariants.{Groups}
 use Rattle.iff_desk.specs.Changing.{best as best_of}

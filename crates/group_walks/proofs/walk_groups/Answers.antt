@@ -1,12 +1,12 @@
 -- `walk_groups` meets its contract: what is left is sound exactly when the whole is. Assumes nothing.
-use Prim.Native.Nat.{◌-◌, ◌*◌, ◌≤◌}
-use mathlib.Core.Path.{◌≡◌, refl, ◌∙◌}
+use Prim.Native.Nat.{◌*◌, ◌≤◌}
+use mathlib.Core.Path.{refl, ◌∙◌}
 use native.Mathlib.Nat.{mul-le-mul_right}
 use native.Mathlib.Omega.{arith}
 use lib.ListN.{length}
 use borrow.Author.Rules.{rules}
 use borrow.Author.Tests.{not-true, not-false}
-use Rattle.group_walks.proofs.WalkLaws.{as_wide, GroupsWalked, stray, starts, goes_on, breaks, ends}
+use Rattle.group_walks.proofs.WalkLaws.{as_wide, stray, starts, goes_on, breaks, ends}
 use Rattle.group_walks.proofs.walk_groups.Goals as goal
 
 pub next_head-first-requires : goal.next_head-first-requires

@@ -1,8 +1,8 @@
 -- `walk_groups` meets its contract: what is left is sound exactly when the whole is. Assumes nothing.
-use Prim.Native.Nat.{◌-◌, ◌*◌, ◌≤◌}
-use mathlib.Core.Path.{◌≡◌, refl, ◌∙◌}
+use Prim.Native.Nat.{◌-◌}
+use mathlib.Core.Path.{◌≡◌}
 use lib.ListN.{length}
-use Rattle.group_walks.proofs.WalkLaws.{as_wide, GroupsWalked, stray, starts, goes_on, breaks, ends}
+use Rattle.group_walks.proofs.WalkLaws.{GroupsWalked}
 use Rattle.group_walks.proofs.walk_groups.Given as goal
 
 abbrev pub invariant-loop-i : goal.invariant-loop-i

@@ -21,7 +21,7 @@ returns-then-flag-eq0 c R e f g =
     → change_flag (station_row R c.args.a.station) ≡ c.word_of-flag.result = λ R e. ap change_flag (c.find_station-row.ensures R e).is ∙ sym c.word_of-flag.ensures in
     let a = c.args in
     c.core.ensures
-    ∙ rw (to_z-of_z {c = w32} c.ranges.gap)
+    ∙ rw (to_z-of_z {w = w32} c.ranges.gap)
     (flag_alone a.gap (change_flag (station_row R a.a.station))
     (best_for R (rows_found a.timetbls.now a.a) (rows_found a.timetbls.now a.b) a.a.station a.from a.to)
     (change_time (station_row R a.a.station)) (flag_is R e ∙ c.if-flag-eq0.true))
@@ -31,7 +31,7 @@ returns c R e f g =
     let flag_is : (R : PerFile (List Row)) → R.stations ≡ rows_in (Rows Stations) c.args.stations.now
     → change_flag (station_row R c.args.a.station) ≡ c.word_of-flag.result = λ R e. ap change_flag (c.find_station-row.ensures R e).is ∙ sym c.word_of-flag.ensures in
     c.core-2.ensures
-    ∙ rw (to_z-of_z {c = w32} c.ranges.gap)
+    ∙ rw (to_z-of_z {w = w32} c.ranges.gap)
     (same_verdict c.args.gap c.word_of-flag.result _ c.best_for-best.result _ c.word_of-time.result _ (sym (flag_is R e)) (c.best_for-best.ensures R f g)
     (c.word_of-time.ensures ∙ ap change_time (sym (c.find_station-row.ensures R e).is)))
 

@@ -2,7 +2,7 @@
 use mathlib.Core.Path.{sym}
 use borrow.Author.Rules.{rules}
 use borrow.Author.Tests.{eq-eqb, ne_eqb}
-use Rattle.text.proofs.PictureLaws.{Passed, unequal, begins, fails, passes, ended}
+use Rattle.text.proofs.PictureLaws.{unequal, begins, fails, passes, ended}
 use Rattle.sound_firsts.proofs.same_words.Goals as goal
 
 pub returns-then-a-b : goal.returns-then-a-b

@@ -1,6 +1,6 @@
 -- `same_words` meets its contract: an instance of the laws of one test over two lists. Assumes nothing.
 use lib.Dec.{eqb}
-use Rattle.text.proofs.PictureLaws.{Passed, unequal, begins, fails, passes, ended}
+use Rattle.text.proofs.PictureLaws.{Passed}
 use Rattle.sound_firsts.proofs.same_words.Given as goal
 
 abbrev pub invariant-loop-words_left : goal.invariant-loop-words_left
