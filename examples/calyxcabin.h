@@ -1,4 +1,4 @@
-/* calyxcabin.h: the proved library for C, target/staticlib/libexports.a (`rt staticlib exports`), for x86-64 Linux.
+/* calyxcabin.h: the proved library for C, crates/exports/out/libexports.a (`tools/build-archive`), for x86-64 Linux.
  *
  * What each function answers and leaves is said by its contract in crates/exports/src/lib.rt, for every input: it asks nothing of the bytes
  * and words that it is lent. What a caller owes:

@@ -1,6 +1,6 @@
 /* change.c: loads a delivery and asks for one change, from C.
  *
- *   cc -O2 -o change examples/change.c target/staticlib/libexports.a
+ *   cc -O2 -o change examples/change.c crates/exports/out/libexports.a
  *   ./change examples/delivery 1 2 14122015 3 1 15122015
  */
 #include <inttypes.h>

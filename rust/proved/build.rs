@@ -1,20 +1,22 @@
-//! Links the archive of the proved crates, which `rt staticlib exports` writes:
-//! into this program on x86-64, elsewhere into one for the kit's emulator. Where
-//! `PROVED_NATIVE` is set, what `tools/native-archive` made of it for another
-//! machine is linked into this program.
+//! Links the archive of the proved crates, which `tools/build-archive` makes:
+//! into this program on x86-64, elsewhere into one for the emulator
+//! `qemu-x86_64`. Where `PROVED_NATIVE` is set, what `tools/native-archive` made
+//! of it for another machine is linked into this program.
 
 use std::path::{Path, PathBuf};
 use std::process::Command;
 use std::{env, process};
 
+const EMULATOR: &str = "qemu-x86_64";
+
 fn main() {
     let native = env::var_os("PROVED_NATIVE").is_some();
     let (folder, maker) = match native {
-        true => ("native", "tools/native-archive"),
-        false => ("staticlib", "rt staticlib exports"),
+        true => ("target/native", "tools/native-archive"),
+        false => ("crates/exports/out", "tools/build-archive"),
     };
-    let target = Path::new(&variable("CARGO_MANIFEST_DIR")).join("../../target");
-    let archive = target.join(folder).join("libexports.a");
+    let top = Path::new(&variable("CARGO_MANIFEST_DIR")).join("../..");
+    let archive = top.join(folder).join("libexports.a");
     println!("cargo:rerun-if-env-changed=PROVED_NATIVE");
     println!("cargo:rerun-if-changed={}", archive.display());
     println!("cargo:rerun-if-changed=src/servant.c");
@@ -27,7 +29,14 @@ fn main() {
     match variable("CARGO_CFG_TARGET_ARCH").as_str() {
         "x86_64" => link(&archive),
         _ if native => link(&archive),
-        machine => build_servant(&archive, &kit().join("on").join(machine).join("toolchain/bin")),
+        machine => {
+            if Command::new(EMULATOR).arg("--version").output().is_err() {
+                stop(&format!(
+                    "The archive is for x86-64; on {machine} it needs {EMULATOR}, which the Rattle kit has not."
+                ));
+            }
+            build_servant(&archive, &kit().join("toolchain/bin"))
+        }
     }
 }
 
@@ -54,15 +63,14 @@ fn build_servant(archive: &Path, tools: &Path) {
         ["--target=x86_64-unknown-linux-gnu", "-O2", "-ffreestanding", "-fno-stack-protector", "-c"];
     run(Command::new(tools.join("clang")).args(compiling).arg("src/servant.c").arg("-o").arg(&object));
     run(Command::new(tools.join("ld.lld")).arg("-static").arg("-o").arg(&servant).arg(&object).arg(archive));
-    let emulator = tools.join("qemu-x86_64");
-    name_servant(&emulator.display().to_string(), &servant.display().to_string());
+    name_servant(EMULATOR, &servant.display().to_string());
 }
 
 /// The folder of the Rattle kit, of whose guide `rt doc` tells the path.
 fn kit() -> PathBuf {
     let told = Command::new("rt").arg("doc").output().unwrap_or_else(|_| stop("`rt` was not found."));
     let guide = PathBuf::from(String::from_utf8_lossy(&told.stdout).trim());
-    guide.ancestors().nth(2).unwrap_or_else(|| stop("`rt doc` tells no path.")).into()
+    guide.parent().unwrap_or_else(|| stop("`rt doc` tells no path.")).into()
 }
 
 fn run(command: &mut Command) {

@@ -1,4 +1,4 @@
-//! The functions of the archive in an x86-64 process under the kit's emulator.
+//! The functions of the archive in an x86-64 process under `qemu-x86_64`.
 //!
 //! Both sides speak in 64-bit words, lowest byte first. The first word asked is
 //! the call. For a load follow: the lengths of the eleven files in bytes, which

@@ -5,7 +5,7 @@
 //! for every file and every table.
 //!
 //! The archive of the proved crates is for x86-64. On any other machine its
-//! functions run in a process of its own under the kit's emulator: the answers
+//! functions run in a process of its own under `qemu-x86_64`: the answers
 //! are the same, and times say nothing. `tools/native-archive` makes an archive
 //! for the machine itself, which is linked where `PROVED_NATIVE` is set.
 

@@ -1,4 +1,4 @@
-// The archive is for x86-64. Where the machine is another, this program holds it, runs under the kit's emulator, and does one call
+// The archive is for x86-64. Where the machine is another, this program holds it, runs under the emulator qemu-x86_64, and does one call
 // after another for `emulated.rs`, which says what is read and written. It stands alone: no C library.
 
 typedef unsigned char u8;
