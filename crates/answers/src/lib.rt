@@ -2,7 +2,7 @@
 #![tactic(auto)]
 
 ghost use Rattle.std.specs.Prelude.{◌≡◌};
-ghost use Rattle.iff.specs.Refusals.{answer as answerTo};
+ghost use Rattle.iff.specs.Refusals.{answer as answer_to};
 
 use iff::{Answer, Verdict};
 
@@ -15,7 +15,7 @@ pub fn wide(x: usize) -> u64
 
 // What a load or an amendment answers.
 pub fn answer_of(v: Verdict, days: usize, services: u64) -> Answer
-    ensures { result ≡ answerTo v days services }
+    ensures { result ≡ answer_to v days services }
 {
     match v {
         Verdict::Fine => Answer::Accepted(wide(days), services),

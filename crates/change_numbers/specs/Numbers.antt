@@ -1,6 +1,6 @@
 -- The answer to a change in plain numbers.
 use Rattle.std.specs.Prelude.{ℕ, List, [], ◌∷◌, ℤ}
-use Rattle.iff_desk.specs.Answers.{changeNumber, Word, verdict, Why, why, gapShown, sourceShown, neededShown}
+use Rattle.iff_desk.specs.Answers.{change_number, Word, verdict, Why, why, gap_shown, source_shown, needed_shown}
 use Rattle.iff_desk.specs.declared.Source.{Source}
 use Rattle.iff_desk.specs.declared.Source.TheVariants.{FromChanges, FromStations, FromXchanges}
 use Rattle.iff_desk.specs.declared.Change.{Change}
@@ -15,15 +15,15 @@ verdict_number Word.yes = 2
 verdict_number Word.unsettled = 3
 
 abbrev pub why_of : Why → ℕ
-why_of Why.same-service-and-date = 1
-why_of Why.from-rests = 2
-why_of Why.to-rests = 3
-why_of Why.stations-differ = 4
-why_of Why.nobody-alights = 5
-why_of Why.nobody-boards = 6
-why_of Why.pair-00 = 7
-why_of Why.flag-0 = 8
-why_of Why.gap-below-needed = 9
+why_of Why.same_service_and_date = 1
+why_of Why.from_rests = 2
+why_of Why.to_rests = 3
+why_of Why.stations_differ = 4
+why_of Why.nobody_alights = 5
+why_of Why.nobody_boards = 6
+why_of Why.pair_00 = 7
+why_of Why.flag_0 = 8
+why_of Why.gap_below_needed = 9
 
 abbrev pub why_number : List Why → ℕ
 why_number [] = 0
@@ -40,15 +40,15 @@ source_number (s ∷ ss) = source_of s
 
 abbrev pub change_words : Change → List ℕ
 change_words a =
-    changeNumber a
+    change_number a
     ∷ verdict_number (verdict a)
     ∷ why_number (why a)
-    ∷ is_shown (gapShown a)
-    ∷ source_number (sourceShown a)
-    ∷ is_shown (neededShown a)
-    ∷ number_or0 (neededShown a)
+    ∷ is_shown (gap_shown a)
+    ∷ source_number (source_shown a)
+    ∷ is_shown (needed_shown a)
+    ∷ number_or0 (needed_shown a)
     ∷ []
 
 -- and the gap, in minutes
 abbrev pub change_gap : Change → List ℤ
-change_gap a = minutes_or0 (gapShown a) ∷ []
+change_gap a = minutes_or0 (gap_shown a) ∷ []

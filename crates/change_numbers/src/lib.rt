@@ -2,7 +2,7 @@
 #![tactic(auto)]
 
 ghost use Rattle.std.specs.Prelude.{◌≡◌};
-ghost use Rattle.iff_desk.specs.Answers.{whyEarly, whyBarred, barSource};
+ghost use Rattle.iff_desk.specs.Answers.{why_early, why_barred, bar_source};
 ghost use Rattle.change_numbers.specs.Numbers.{why_of, source_of, change_words, change_gap};
 
 use iff_desk::{Bar, Change, Early, Source};
@@ -16,7 +16,7 @@ const UNSETTLED: u64 = 3;
 
 // Why a No before a gap is reached.
 fn number_of_early(early: Early) -> u64
-    ensures { result ≡ why_of (whyEarly early) }
+    ensures { result ≡ why_of (why_early early) }
 {
     match early {
         Early::SameService => 1,
@@ -30,7 +30,7 @@ fn number_of_early(early: Early) -> u64
 
 // Why a No that a pair or a flag brings about.
 fn number_of_bar(bar: Bar) -> u64
-    ensures { result ≡ why_of (whyBarred bar) }
+    ensures { result ≡ why_of (why_barred bar) }
 {
     match bar {
         Bar::Pair00 => 7,
@@ -54,7 +54,7 @@ fn number_of_source(source: Source) -> u64
 
 // Where a pair or a flag stands.
 fn source_of_bar(bar: Bar) -> u64
-    ensures { result ≡ source_of (barSource bar) }
+    ensures { result ≡ source_of (bar_source bar) }
 {
     match bar {
         Bar::Pair00 => number_of_source(Source::FromChanges),

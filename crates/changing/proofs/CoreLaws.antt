@@ -26,16 +26,16 @@ use Rattle.needed_times.specs.Needed.{rows_found}
 use Rattle.needed_times.specs.declared.SideRows.{SideRows}
 
 -- 15
-module _ (R : PerFile (List Row)) (aRows bRows : List Row) (station : ℕ) (A B : Call) (a b x y : ToldTime) (p : x ≡ a) (q : y ≡ b) where
-  pub no_first : x ≡ Untold → ChangeRefused NoPeriod ≡ judged_on R aRows bRows a b station A B
+module _ (R : PerFile (List Row)) (a_rows b_rows : List Row) (station : ℕ) (A B : Call) (a b x y : ToldTime) (p : x ≡ a) (q : y ≡ b) where
+  pub no_first : x ≡ Untold → ChangeRefused NoPeriod ≡ judged_on R a_rows b_rows a b station A B
   unfolding first_test
   no_first e = rw (← p, e)
 
-  pub no_second : (t : TimeOf) → x ≡ Told t → y ≡ Untold → ChangeRefused NoPeriod ≡ judged_on R aRows bRows a b station A B
+  pub no_second : (t : TimeOf) → x ≡ Told t → y ≡ Untold → ChangeRefused NoPeriod ≡ judged_on R a_rows b_rows a b station A B
   unfolding first_test
   no_second t e f = rw (← p, ← q, e, f)
 
-  pub both_told : (t u : TimeOf) → x ≡ Told t → y ≡ Told u → verdict_by R aRows bRows t u station A B ≡ judged_on R aRows bRows a b station A B
+  pub both_told : (t u : TimeOf) → x ≡ Told t → y ≡ Told u → verdict_by R a_rows b_rows t u station A B ≡ judged_on R a_rows b_rows a b station A B
   unfolding first_test
   both_told t u e f = rw (← p, ← q, e, f)
 
@@ -44,7 +44,7 @@ after_clear : (t : Test) (c : Change) → change_after t c ≡ after_hurdles cle
 after_clear Passes c = refl
 after_clear (Fails r) c = refl
 
-module _ (R : PerFile (List Row)) (aRows bRows : List Row) (a b : Row) (station other : ℕ) (A B : Call) where
+module _ (R : PerFile (List Row)) (a_rows b_rows : List Row) (a b : Row) (station other : ℕ) (A B : Call) where
   abbrev arrival : ToldTime
   arrival = arrival_from R a station A
 
@@ -52,14 +52,14 @@ module _ (R : PerFile (List Row)) (aRows bRows : List Row) (a b : Row) (station 
   departure = departure_to R b other B
 
   abbrev verdict : Change
-  verdict = verdict_by R aRows bRows (time_told arrival) (time_told departure) station A B
+  verdict = verdict_by R a_rows b_rows (time_told arrival) (time_told departure) station A B
 
-  pub later_stops : (e : Early) → later_hurdle R aRows bRows A B ≡ stop e → NoBefore e ≡ later_of R aRows bRows a b station other A B
+  pub later_stops : (e : Early) → later_hurdle R a_rows b_rows A B ≡ stop e → NoBefore e ≡ later_of R a_rows b_rows a b station other A B
   unfolding later_of
   later_stops e q = sym (ap (λ (h : Hurdle). after_hurdles h (told_test arrival departure) verdict) q)
 
-  pub later_clear : later_hurdle R aRows bRows A B ≡ clear
-      → judged_on R aRows bRows arrival departure station A B ≡ later_of R aRows bRows a b station other A B
+  pub later_clear : later_hurdle R a_rows b_rows A B ≡ clear
+      → judged_on R a_rows b_rows arrival departure station A B ≡ later_of R a_rows b_rows a b station other A B
   unfolding later_of
   later_clear q = after_clear (told_test arrival departure) verdict ∙ sym (ap (λ (h : Hurdle). after_hurdles h (told_test arrival departure) verdict) q)
 
@@ -74,8 +74,8 @@ module _ (R : PerFile (List Row)) (tt : List ℕ) (A B : Call) (a b : SideRows) 
 
   -- by some rows
   abbrev by_rows : List Row → List Row → Change
-  by_rows aRows bRows =
-      later_of R aRows bRows (stop_at aRows A.stop) (stop_at bRows B.stop) (named (stop_at aRows A.stop)) (named (stop_at bRows B.stop)) A B
+  by_rows a_rows b_rows =
+      later_of R a_rows b_rows (stop_at a_rows A.stop) (stop_at b_rows B.stop) (named (stop_at a_rows A.stop)) (named (stop_at b_rows B.stop)) A B
 
   -- by the rows found and some stops and stations
   abbrev by_stops : Row → Row → ℕ → ℕ → Change

@@ -49,27 +49,27 @@ hurdle_of Clear = clear
 
 -- the services run
 abbrev pub run_hurdle : PerFile (List Row) → List Row → List Row → Call → Call → Hurdle
-run_hurdle R aRows bRows A B =
-    first_hurdle (stop_if (not (runs_on R aRows (A.stop - 1) A.day)) FromRests ∷ stop_if (not (runs_on R bRows B.stop B.day)) ToRests ∷ [])
+run_hurdle R a_rows b_rows A B =
+    first_hurdle (stop_if (not (runs_on R a_rows (A.stop - 1) A.day)) FromRests ∷ stop_if (not (runs_on R b_rows B.stop B.day)) ToRests ∷ [])
 
 -- they meet, and somebody alights and boards
 abbrev pub stop_hurdle : PerFile (List Row) → List Row → List Row → Call → Call → Hurdle
-stop_hurdle R aRows bRows A B =
+stop_hurdle R a_rows b_rows A B =
     first_hurdle
-    (stop_if (not (eqb (named (stop_at aRows A.stop)) (named (stop_at bRows B.stop)))) StationsDiffer
-    ∷ stop_if (not (may_alight R aRows A.stop A.day)) NobodyAlights
-    ∷ stop_if (not (may_board R bRows B.stop B.day)) NobodyBoards
+    (stop_if (not (eqb (named (stop_at a_rows A.stop)) (named (stop_at b_rows B.stop)))) StationsDiffer
+    ∷ stop_if (not (may_alight R a_rows A.stop A.day)) NobodyAlights
+    ∷ stop_if (not (may_board R b_rows B.stop B.day)) NobodyBoards
     ∷ [])
 
 -- all but the first, that it is one service on one day
 abbrev pub later_hurdle : PerFile (List Row) → List Row → List Row → Call → Call → Hurdle
-later_hurdle R aRows bRows A B =
+later_hurdle R a_rows b_rows A B =
     first_hurdle
-    (stop_if (not (runs_on R aRows (A.stop - 1) A.day)) FromRests
-    ∷ stop_if (not (runs_on R bRows B.stop B.day)) ToRests
-    ∷ stop_if (not (eqb (named (stop_at aRows A.stop)) (named (stop_at bRows B.stop)))) StationsDiffer
-    ∷ stop_if (not (may_alight R aRows A.stop A.day)) NobodyAlights
-    ∷ stop_if (not (may_board R bRows B.stop B.day)) NobodyBoards
+    (stop_if (not (runs_on R a_rows (A.stop - 1) A.day)) FromRests
+    ∷ stop_if (not (runs_on R b_rows B.stop B.day)) ToRests
+    ∷ stop_if (not (eqb (named (stop_at a_rows A.stop)) (named (stop_at b_rows B.stop)))) StationsDiffer
+    ∷ stop_if (not (may_alight R a_rows A.stop A.day)) NobodyAlights
+    ∷ stop_if (not (may_board R b_rows B.stop B.day)) NobodyBoards
     ∷ [])
 
 abbrev pub is_same : Call → Call → Bool
@@ -84,29 +84,29 @@ departure_to R b station B = told_on R station (number_on R B.day) (departure_of
 
 -- the gap between two times, and the verdict on it
 abbrev pub verdict_by : PerFile (List Row) → List Row → List Row → TimeOf → TimeOf → ℕ → Call → Call → Change
-verdict_by R aRows bRows arrival departure station A B =
-    verdict_on R (gap_between arrival A.day departure B.day) aRows bRows station A B
+verdict_by R a_rows b_rows arrival departure station A B =
+    verdict_on R (gap_between arrival A.day departure B.day) a_rows b_rows station A B
 
 -- 15 before it, for either time
 abbrev pub judged_on : PerFile (List Row) → List Row → List Row → ToldTime → ToldTime → ℕ → Call → Call → Change
-judged_on R aRows bRows arrival departure station A B =
-    change_after (told_test arrival departure) (verdict_by R aRows bRows (time_told arrival) (time_told departure) station A B)
+judged_on R a_rows b_rows arrival departure station A B =
+    change_after (told_test arrival departure) (verdict_by R a_rows b_rows (time_told arrival) (time_told departure) station A B)
 
 -- the core but for the first hurdle, of two services' rows, their stops and the stations there
 unfoldable pub later_of : PerFile (List Row) → List Row → List Row → Row → Row → ℕ → ℕ → Call → Call → Change
-later_of R aRows bRows a b station other A B =
+later_of R a_rows b_rows a b station other A B =
     let arrival = arrival_from R a station A in
     let departure = departure_to R b other B in
-    after_hurdles (later_hurdle R aRows bRows A B) (told_test arrival departure)
-    (verdict_by R aRows bRows (time_told arrival) (time_told departure) station A B)
+    after_hurdles (later_hurdle R a_rows b_rows A B) (told_test arrival departure)
+    (verdict_by R a_rows b_rows (time_told arrival) (time_told departure) station A B)
 
 abbrev pub later_change : PerFile (List Row) → Call → Call → Change
 later_change R A B =
-    let aRows = service_rows R A.service in
-    let bRows = service_rows R B.service in
-    let a = stop_at aRows A.stop in
-    let b = stop_at bRows B.stop in
-    later_of R aRows bRows a b (named a) (named b) A B
+    let a_rows = service_rows R A.service in
+    let b_rows = service_rows R B.service in
+    let a = stop_at a_rows A.stop in
+    let b = stop_at b_rows B.stop in
+    later_of R a_rows b_rows a b (named a) (named b) A B
 
 -- THE PRECHECK of either side
 abbrev pub asked_from : PerFile (List Row) → Side → Test

@@ -13,7 +13,7 @@ ghost use Rattle.iff.specs.declared.RowFile.TheVariants.{Stations};
 ghost use Rattle.iff.specs.declared.GroupFile.TheVariants.{Footnote, Changes, Xfootnote, Xchanges};
 ghost use Rattle.iff.specs.declared.File.TheVariants.{Delivery, Rows, Groups, Timetbls};
 ghost use Rattle.iff_desk.specs.Store.{number_on};
-ghost use Rattle.iff_desk.specs.Changing.{call_of, gap_between, core_change, precheck as precheckOf, change_after};
+ghost use Rattle.iff_desk.specs.Changing.{call_of, gap_between, core_change, precheck as precheck_of, change_after};
 ghost use Rattle.slots.specs.Slots.{Index};
 ghost use Rattle.store.specs.Found.{Stored, Inside, BlocksTold};
 ghost use Rattle.zone_times.specs.Clocks.{FewMinutes};
@@ -467,7 +467,7 @@ fn change_to(
     ensures { (R : PerFile (List Row))
         → RowsOf R delivery.now zones.now stations.now footnotes.now timetbls.now
         changes.now xfootnotes.now xchanges.now
-        → result ≡ change_after (precheckOf R (side_of from) (side_of to)) (core_change R (call_of R (side_of from)) (call_of R (side_of to))) }
+        → result ≡ change_after (precheck_of R (side_of from) (side_of to)) (core_change R (call_of R (side_of from)) (call_of R (side_of to))) }
 {
     let b_part = find_part(timetbls, counts.timetbls, service_places, to.service);
     match to_part(delivery, counts.delivery, timetbls, b_part, to) {
@@ -505,7 +505,7 @@ pub fn change_in(
     ensures { (R : PerFile (List Row))
         → RowsOf R delivery.now zones.now stations.now footnotes.now timetbls.now
         changes.now xfootnotes.now xchanges.now
-        → result ≡ change_after (precheckOf R (side_of from) (side_of to)) (core_change R (call_of R (side_of from)) (call_of R (side_of to))) }
+        → result ≡ change_after (precheck_of R (side_of from) (side_of to)) (core_change R (call_of R (side_of from)) (call_of R (side_of to))) }
 {
     let a_part = find_part(timetbls, counts.timetbls, service_places, from.service);
     match from_part(delivery, counts.delivery, timetbls, a_part, from) {

@@ -2,12 +2,12 @@
 #![tactic(auto)]
 
 ghost use Rattle.std.specs.Prelude.{◌≡◌, ◌&&◌, eqb};
-ghost use Rattle.iff.specs.Bytes.{blank as blankByte};
+ghost use Rattle.iff.specs.Bytes.{blank as blank_byte};
 ghost use Rattle.iff.specs.Values.{code_right};
 
 // All bytes so far are blank, and so is this one.
 fn still_blank(blank: bool, byte: u8) -> bool
-    ensures { result ≡ (blank && eqb blankByte byte) }
+    ensures { result ≡ (blank && eqb blank_byte byte) }
 {
     if blank { b' ' == byte } else { false }
 }

@@ -10,7 +10,7 @@ ghost use Rattle.iff.specs.declared.GroupFile.TheVariants.{Timezone, Footnote};
 ghost use Rattle.iff.specs.declared.File.TheVariants.{Delivery, Rows, Groups, Timetbls};
 ghost use Rattle.iff_desk.specs.Running.{running_in, running_day};
 ghost use Rattle.iff_desk.specs.Stops.{stop_time_in, stop_time};
-ghost use Rattle.iff_desk.specs.Changing.{precheck, core_change, call_of, change_after, change as changeTo};
+ghost use Rattle.iff_desk.specs.Changing.{precheck, core_change, call_of, change_after, change as change_to};
 ghost use Rattle.day_times.specs.Told.{FewHours};
 ghost use Rattle.changing.specs.Agree.{RowsOf};
 ghost use Rattle.changing.specs.Sides.{side_of};
@@ -236,7 +236,7 @@ pub fn change(
     to_stop: u64,
     to_date: u64,
 ) -> Change
-    ensures { result ≡ changeTo (eleven delivery.now company.now country.now trnsmode.now
+    ensures { result ≡ change_to (eleven delivery.now company.now country.now trnsmode.now
         timezone.now stations.now footnote.now timetbls.now changes.now
         xfootnote.now xchanges.now)
         (record { service = from_service; stop = from_stop; date = from_date })

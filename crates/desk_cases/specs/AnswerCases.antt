@@ -12,11 +12,11 @@ use Rattle.iff.specs.declared.Test.{Test}
 use Rattle.iff.specs.declared.Test.TheVariants.{Passes, Fails}
 use Rattle.iff.specs.declared.Answer.{Answer}
 use Rattle.iff.specs.declared.Answer.TheVariants.{Accepted, Refused}
-use Rattle.iff_desk.specs.Answers.{answerNumber, answerPlace, answerDays, answerServices, partNumber, partPlace, runningNumber, runningPlace}
-use Rattle.iff_desk.specs.Answers.{runningShown, stopTimeNumber, stopTimePlace, stationShown, localShown, referenceShown, arrivalShown}
-use Rattle.iff_desk.specs.Answers.{departureShown, changeNumber, changePlace, Word, no, yes, unsettled, none, verdict, Why, same-service-and-date}
-use Rattle.iff_desk.specs.Answers.{from-rests, to-rests, stations-differ, nobody-alights, nobody-boards, pair-00, flag-0, gap-below-needed, why}
-use Rattle.iff_desk.specs.Answers.{gapShown, sourceShown, neededShown}
+use Rattle.iff_desk.specs.Answers.{answer_number, answer_place, answer_days, answer_services, part_number, part_place, running_number, running_place}
+use Rattle.iff_desk.specs.Answers.{running_shown, stop_time_number, stop_time_place, station_shown, local_shown, reference_shown, arrival_shown}
+use Rattle.iff_desk.specs.Answers.{departure_shown, change_number, change_place, Word, no, yes, unsettled, none, verdict, Why, same_service_and_date}
+use Rattle.iff_desk.specs.Answers.{from_rests, to_rests, stations_differ, nobody_alights, nobody_boards, pair_00, flag_0, gap_below_needed, why}
+use Rattle.iff_desk.specs.Answers.{gap_shown, source_shown, needed_shown}
 use Rattle.iff_desk.specs.declared.Running.{Running}
 use Rattle.iff_desk.specs.declared.Running.TheVariants.{Runs, Rests, RunningRefused}
 use Rattle.iff_desk.specs.declared.TimeOf.{TimeOf}
@@ -47,11 +47,11 @@ zeros = 0 ∷ 0 ∷ 0 ∷ []
 
 -- a load or an amendment: number, place, days, services
 abbrev loaded : Answer → ℕ × List ℕ × ℕ × ℕ
-loaded a = (answerNumber a, place (answerPlace a), answerDays a, answerServices a)
+loaded a = (answer_number a, place (answer_place a), answer_days a, answer_services a)
 
 -- name and lines now: number, place
 abbrev part : Test → ℕ × List ℕ
-part t = (partNumber t, place (partPlace t))
+part t = (part_number t, place (part_place t))
 
 abbrev pub refusals : List Claim
 refusals =
@@ -76,7 +76,7 @@ refusals_hold = (refl, (refl, (refl, (refl, (refl, (refl, (refl, (refl, (refl, (
 
 -- running day: number, place, whether the service runs
 abbrev running : Running → ℕ × List ℕ × List Bool
-running r = (runningNumber r, place (runningPlace r), runningShown r)
+running r = (running_number r, place (running_place r), running_shown r)
 
 abbrev pub runnings : List Claim
 runnings =
@@ -94,10 +94,10 @@ runnings_hold = (refl, (refl, (refl, (refl, (refl, (refl, tt))))))
 
 -- stop time: number, place, station, local and reference arrival, local and reference departure
 abbrev clocks : TimeOf → List ℤ × List ℤ
-clocks t = (localShown t, referenceShown t)
+clocks t = (local_shown t, reference_shown t)
 
 abbrev stopping : StopTime → ℕ × List ℕ × List ℕ × (List ℤ × List ℤ) × (List ℤ × List ℤ)
-stopping t = (stopTimeNumber t, place (stopTimePlace t), stationShown t, clocks (arrivalShown t), clocks (departureShown t))
+stopping t = (stop_time_number t, place (stop_time_place t), station_shown t, clocks (arrival_shown t), clocks (departure_shown t))
 
 abbrev no_times : List ℤ × List ℤ
 no_times = ([], [])
@@ -123,23 +123,23 @@ stop_times_hold = (refl, (refl, (refl, (refl, (refl, (refl, (refl, (refl, tt))))
 
 -- change: number, place, the word, why; and gap, source and needed time
 abbrev worded : Change → ℕ × List ℕ × Word × List Why
-worded c = (changeNumber c, place (changePlace c), verdict c, why c)
+worded c = (change_number c, place (change_place c), verdict c, why c)
 
 abbrev reached : Change → List ℤ × List Source × List ℕ
-reached c = (gapShown c, sourceShown c, neededShown c)
+reached c = (gap_shown c, source_shown c, needed_shown c)
 
 -- "A No shows its reason."
 abbrev pub words : List Claim
 words =
-    claim "the same service and date" (worded (NoBefore SameService)) (0, zeros, no, same-service-and-date ∷ []) ∷
-    claim "A rests" (worded (NoBefore FromRests)) (0, zeros, no, from-rests ∷ []) ∷
-    claim "B rests" (worded (NoBefore ToRests)) (0, zeros, no, to-rests ∷ []) ∷
-    claim "the stations differ" (worded (NoBefore StationsDiffer)) (0, zeros, no, stations-differ ∷ []) ∷
-    claim "nobody alights" (worded (NoBefore NobodyAlights)) (0, zeros, no, nobody-alights ∷ []) ∷
-    claim "nobody boards" (worded (NoBefore NobodyBoards)) (0, zeros, no, nobody-boards ∷ []) ∷
-    claim "00" (worded (NoBarred (pos 90) Pair00)) (0, zeros, no, pair-00 ∷ []) ∷
-    claim "flag 0" (worded (NoBarred (pos 90) Flag0)) (0, zeros, no, flag-0 ∷ []) ∷
-    claim "too short" (worded (NoShort (pos 90) FromXchanges 99)) (0, zeros, no, gap-below-needed ∷ []) ∷
+    claim "the same service and date" (worded (NoBefore SameService)) (0, zeros, no, same_service_and_date ∷ []) ∷
+    claim "A rests" (worded (NoBefore FromRests)) (0, zeros, no, from_rests ∷ []) ∷
+    claim "B rests" (worded (NoBefore ToRests)) (0, zeros, no, to_rests ∷ []) ∷
+    claim "the stations differ" (worded (NoBefore StationsDiffer)) (0, zeros, no, stations_differ ∷ []) ∷
+    claim "nobody alights" (worded (NoBefore NobodyAlights)) (0, zeros, no, nobody_alights ∷ []) ∷
+    claim "nobody boards" (worded (NoBefore NobodyBoards)) (0, zeros, no, nobody_boards ∷ []) ∷
+    claim "00" (worded (NoBarred (pos 90) Pair00)) (0, zeros, no, pair_00 ∷ []) ∷
+    claim "flag 0" (worded (NoBarred (pos 90) Flag0)) (0, zeros, no, flag_0 ∷ []) ∷
+    claim "too short" (worded (NoShort (pos 90) FromXchanges 99)) (0, zeros, no, gap_below_needed ∷ []) ∷
     -- other answers have none
     claim "Yes" (worded (Yes (pos 90) FromStations 5)) (0, zeros, yes, []) ∷
     claim "Unsettled" (worded (Unsettled (pos 1480) FromStations 99)) (0, zeros, unsettled, []) ∷

@@ -3,7 +3,7 @@ use Prim.{tt}
 use Rattle.std.specs.Prelude.{ℕ, refl, List, [], ◌∷◌, ◌++◌}
 use Prim.Native.String.{String}
 use Rattle.iff.specs.Bytes.{bytes}
-use Rattle.iff_desk.specs.Answers.{partNumber}
+use Rattle.iff_desk.specs.Answers.{part_number}
 use Rattle.iff_desk.specs.Parts.{name, name_test, lines_now, lines_now_test}
 use Rattle.small_delivery.specs.Text.{written}
 use Rattle.small_delivery.specs.Claims.{Claim, claim, Hold}
@@ -13,7 +13,7 @@ use Rattle.small_delivery.specs.Stored.{AAA, CCC}
 
 -- a station's name, and the number
 abbrev named : List ℕ → ℕ → List ℕ × ℕ
-named stations short = (name stations short, partNumber (name_test stations short))
+named stations short = (name stations short, part_number (name_test stations short))
 
 -- the STATIONS text of the small delivery
 abbrev stations : List ℕ
@@ -60,7 +60,7 @@ names_hold = (refl, (refl, (refl, (refl, (refl, (refl, (refl, (refl, (refl, (ref
 
 -- a service's lines by a text and a block, and the number
 abbrev now : List ℕ → List ℕ → ℕ → List ℕ × ℕ
-now t block service = (lines_now t block service, partNumber (lines_now_test t block service))
+now t block service = (lines_now t block service, part_number (lines_now_test t block service))
 
 -- the TIMETBLS text of the small delivery
 abbrev timetable : List ℕ

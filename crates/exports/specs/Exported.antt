@@ -5,7 +5,7 @@ use Rattle.iff.specs.Lines.{lines}
 use Rattle.iff.specs.declared.File.{File}
 use Rattle.iff_rules.specs.Load.{load_answer, load_table}
 use Rattle.iff_desk.specs.Amend.{amend_answer, amend_timetbls}
-use Rattle.iff_desk.specs.Answers.{partNumber}
+use Rattle.iff_desk.specs.Answers.{part_number}
 use Rattle.iff_desk.specs.Sheet.{sheet_test}
 use Rattle.iff_desk.specs.Parts.{name, name_test, is_one_block, lines_now, lines_now_test}
 use Rattle.iff_desk.specs.declared.StopTime.{StopTime}
@@ -52,5 +52,5 @@ pub record ChangedInNumbers (a : Change) (words : List ℕ) (minutes : List ℤ)
 
 -- A SHEET: the refusal's number, 0 where every question is answered, and the lent list
 pub record SheetedInNumbers (T : PerFile (List ℕ)) (qs list : List ℕ) (number : ℕ) (after : List ℕ) : Type 0 where
-  pub tells : number ≡ partNumber (sheet_test T qs list)
+  pub tells : number ≡ part_number (sheet_test T qs list)
   pub leaves : after ≡ sheet_list T qs list

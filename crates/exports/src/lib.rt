@@ -6,7 +6,7 @@ ghost use Rattle.iff.specs.Files.{eleven};
 ghost use Rattle.iff_desk.specs.Sound.{sound as are_sound};
 ghost use Rattle.iff_desk.specs.Running.{running_day};
 ghost use Rattle.iff_desk.specs.Stops.{stop_time};
-ghost use Rattle.iff_desk.specs.Changing.{change as changeTo, rank as rankBy};
+ghost use Rattle.iff_desk.specs.Changing.{change as change_to, rank as rank_by};
 ghost use Rattle.question_numbers.specs.Numbers.{sound_number, running_words};
 ghost use Rattle.exports.specs.Exported.{LoadedInNumbers, AmendedInNumbers, NamedInNumbers, LinesInNumbers, TimedInNumbers, ChangedInNumbers, SheetedInNumbers};
 
@@ -257,7 +257,7 @@ pub extern "C" fn calyxcabin_change(
     answer: &mut [u64; 7],
     gap: &mut [i32; 1],
 )
-    ensures { ChangedInNumbers (changeTo
+    ensures { ChangedInNumbers (change_to
         (eleven delivery.now company.now country.now trnsmode.now timezone.now
         stations.now footnote.now timetbls.now changes.now xfootnote.now
         xchanges.now)
@@ -326,7 +326,7 @@ pub extern "C" fn calyxcabin_rank(
     to_company: u64,
     to_mode: u64,
 ) -> u64
-    ensures { result ≡ rankBy (record { company = from_company; mode = from_mode }) (record { company = to_company; mode = to_mode }) }
+    ensures { result ≡ rank_by (record { company = from_company; mode = from_mode }) (record { company = to_company; mode = to_mode }) }
 {
     let from = Riding {
         company: from_company,

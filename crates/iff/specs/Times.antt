@@ -38,4 +38,4 @@ on_day m day = m.0 +ℤ pos (day * 1440)
 
 -- "The gap is B's departure minus A's arrival in reference minutes, 1440 a day."
 abbrev pub gap_of : ReferenceMinutes → ℕ → ReferenceMinutes → ℕ → ℤ
-gap_of arrival arrivalDay departure departureDay = on_day departure departureDay -ℤ on_day arrival arrivalDay
+gap_of arrival arrival_day departure departure_day = on_day departure departure_day -ℤ on_day arrival arrival_day

@@ -101,19 +101,19 @@ best_at R station a b d = best NoBest (kept (applies R a b d) (drop 1 (group_of 
 -- the best row of XCHANGES for a change, at the station of A's stop
 abbrev pub best_between : PerFile (List Row) → Call → Call → Best
 best_between R A B =
-    let aRows = service_rows R A.service in
-    best_at R (named (stop_at aRows A.stop)) (riding_on aRows (A.stop - 1)) (riding_on (service_rows R B.service) B.stop) A.day
+    let a_rows = service_rows R A.service in
+    best_at R (named (stop_at a_rows A.stop)) (riding_on a_rows (A.stop - 1)) (riding_on (service_rows R B.service) B.stop) A.day
 
 -- THE VERDICT on a gap
 -- "Gap below needed: No. Otherwise Unsettled if .., else Yes."
 unfoldable pub settled : ℤ → Source → ℕ → Bool → Change
-settled gap source needed atTop =
-    cond (lt_z gap (pos needed)) (NoShort gap source needed) (cond atTop (Unsettled gap source needed) (Yes gap source needed))
+settled gap source needed at_top =
+    cond (lt_z gap (pos needed)) (NoShort gap source needed) (cond at_top (Unsettled gap source needed) (Yes gap source needed))
 
 -- "best XCHANGES row; the station's change time": "Unsettled if needed is 99 from STATIONS or 999 from XCHANGES"
 unfoldable pub by_time : ℤ → Best → ℕ → Change
-by_time gap (BestRow rank time) stationTime = settled gap FromXchanges time (eqb time 999)
-by_time gap NoBest stationTime = settled gap FromStations stationTime (eqb stationTime 99)
+by_time gap (BestRow rank time) station_time = settled gap FromXchanges time (eqb time 999)
+by_time gap NoBest station_time = settled gap FromStations station_time (eqb station_time 99)
 
 -- "first that applies: CHANGES pair there (00: No; 01 and 02: needed 0); flag 0: No; best XCHANGES row; the station's change time"
 unfoldable pub core : ℤ → Pair → ℕ → Best → ℕ → Change
@@ -163,21 +163,21 @@ after_hurdles clear Passes c = c
 -- the core: services that are there, stops and days that are right, on sound tables; by A's arrival, B's departure and the best row of XCHANGES
 unfoldable pub core_by : PerFile (List Row) → Call → Call → ToldTime → ToldTime → Best → Change
 core_by R A B arrival departure best =
-    let aRows = service_rows R A.service in
-    let bRows = service_rows R B.service in
+    let a_rows = service_rows R A.service in
+    let b_rows = service_rows R B.service in
     let k = A.stop - 1 in
     let m = B.stop in
-    let a = stop_at aRows A.stop in
-    let b = stop_at bRows B.stop in
+    let a = stop_at a_rows A.stop in
+    let b = stop_at b_rows B.stop in
     let station = named a in
     after_hurdles
     (first_hurdle
     (stop_if (eqb A.service B.service && eqb A.day B.day) SameService
-    ∷ stop_if (not (runs_on R aRows k A.day)) FromRests
-    ∷ stop_if (not (runs_on R bRows m B.day)) ToRests
+    ∷ stop_if (not (runs_on R a_rows k A.day)) FromRests
+    ∷ stop_if (not (runs_on R b_rows m B.day)) ToRests
     ∷ stop_if (not (eqb (named a) (named b))) StationsDiffer
-    ∷ stop_if (not (may_alight R aRows A.stop A.day)) NobodyAlights
-    ∷ stop_if (not (may_board R bRows B.stop B.day)) NobodyBoards
+    ∷ stop_if (not (may_alight R a_rows A.stop A.day)) NobodyAlights
+    ∷ stop_if (not (may_board R b_rows B.stop B.day)) NobodyBoards
     ∷ []))
     (told_test arrival departure)
     (core

@@ -38,13 +38,13 @@ fault_unless b r p = verdict_at p (unless b r)
 
 -- A FIRST LINE: "not starting `@` .. is 7 at once"; 6 where it differs from DELIVERY's
 unfoldable pub first_line_test : Bool → Line → Test
-first_line_test asDelivery l =
+first_line_test as_delivery l =
     line_test
     (record {
       known = true;
       here = eqb (letter l) at;
       laid_out = laid l first_fields;
-      as_first = asDelivery;
+      as_first = as_delivery;
       valued = readable l.body first_fields && first_meaning (first_row_of Delivery true l);
       fresh = true;
       met = true;

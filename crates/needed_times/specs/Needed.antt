@@ -18,9 +18,9 @@ rows_found t s = rows_of (row_width Timetbls) t s.part
 
 -- the best row of XCHANGES, for A on leg i - 1 and B on leg j, on A's day
 abbrev pub best_for : PerFile (List Row) → List Row → List Row → ℕ → Call → Call → Best
-best_for R aRows bRows station A B = best_at R station (riding_on aRows (A.stop - 1)) (riding_on bRows B.stop) A.day
+best_for R a_rows b_rows station A B = best_at R station (riding_on a_rows (A.stop - 1)) (riding_on b_rows B.stop) A.day
 
 abbrev pub verdict_on : PerFile (List Row) → ℤ → List Row → List Row → ℕ → Call → Call → Change
-verdict_on R gap aRows bRows station A B =
-    core gap (pair_at R station A.service B.service) (change_flag (station_row R station)) (best_for R aRows bRows station A B)
+verdict_on R gap a_rows b_rows station A B =
+    core gap (pair_at R station A.service B.service) (change_flag (station_row R station)) (best_for R a_rows b_rows station A B)
     (change_time (station_row R station))

@@ -3,13 +3,13 @@ use Rattle.std.specs.Prelude.{ℕ, List, [], ◌∷◌, ℤ, pos}
 use Rattle.iff.specs.Files.{file_at}
 use Rattle.iff.specs.Refusals.{ordinal, line_at}
 use Rattle.iff.specs.declared.Answer.{Answer}
-use Rattle.iff_desk.specs.Answers.{answerNumber, answerPlace, answerDays, answerServices}
+use Rattle.iff_desk.specs.Answers.{answer_number, answer_place, answer_days, answer_services}
 
 -- six numbers, the paper's own: the refusal, 0 where there is none; its file, ordinal and line; the days and the services
 abbrev pub answer_words : Answer → List ℕ
 answer_words a =
-    let place = answerPlace a in
-    answerNumber a ∷ file_at place ∷ ordinal place ∷ line_at place ∷ answerDays a ∷ answerServices a ∷ []
+    let place = answer_place a in
+    answer_number a ∷ file_at place ∷ ordinal place ∷ line_at place ∷ answer_days a ∷ answer_services a ∷ []
 
 -- A VALUE THAT IS SHOWN OR NOT, a list of one or of none: 1 or 0 whether it is shown; the value itself, 0 where it is not
 abbrev pub is_shown : {A : Type 0} → List A → ℕ

@@ -3,7 +3,7 @@
 
 ghost use Rattle.std.specs.Prelude.{◌≡◌, Bool, ◌≤◌, length, drop};
 ghost use Rattle.iff.specs.Lines.{lines};
-ghost use Rattle.iff_desk.specs.Parts.{seek as seekFrom, seek_after, is_station, is_head};
+ghost use Rattle.iff_desk.specs.Parts.{seek as seek_from, seek_after, is_station, is_head};
 ghost use Rattle.parts.specs.Wants.{bodied, wants, Sought};
 ghost use Rattle.parts.specs.Bounds.{no_part};
 
@@ -76,7 +76,7 @@ fn is_wanted(line: &[u8], want: Want) -> bool
 // Where the first line begins that is wanted, of those from `from` on.
 pub fn seek(text: &[u8], from: usize, want: Want) -> Offset
     requires { from ≤ length text.now }
-    ensures { Sought (seekFrom (wants want) from (lines (drop from text.now))) want from (length text.now) result }
+    ensures { Sought (seek_from (wants want) from (lines (drop from text.now))) want from (length text.now) result }
 {
     let mut at = from;
     while at < text.len() {

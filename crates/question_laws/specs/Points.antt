@@ -36,8 +36,8 @@ best_at_by_points R station a b d = best_by_points NoBest (kept (applies R a b d
 
 abbrev pub best_between_by_points : PerFile (List Row) → Call → Call → Best
 best_between_by_points R A B =
-    let aRows = service_rows R A.service in
-    best_at_by_points R (named (stop_at aRows A.stop)) (riding_on aRows (A.stop - 1)) (riding_on (service_rows R B.service) B.stop) A.day
+    let a_rows = service_rows R A.service in
+    best_at_by_points R (named (stop_at a_rows A.stop)) (riding_on a_rows (A.stop - 1)) (riding_on (service_rows R B.service) B.stop) A.day
 
 -- the change by it
 unfoldable pub core_by_points : PerFile (List Row) → Call → Call → Change

@@ -2,7 +2,7 @@
 #![tactic(auto)]
 
 ghost use Rattle.std.specs.Prelude.{◌≡◌};
-ghost use Rattle.iff_desk.specs.Answers.{partNumber, localShown, referenceShown};
+ghost use Rattle.iff_desk.specs.Answers.{part_number, local_shown, reference_shown};
 ghost use Rattle.numbers.specs.Numbers.{is_shown, minutes_or0};
 ghost use Rattle.question_numbers.specs.Numbers.{sound_number, part_words, lines_words, running_words, stop_time_words, stop_time_minutes};
 
@@ -25,7 +25,7 @@ pub fn sound_number(sound: bool) -> u64
 
 // The refusal, 0 where there is a part.
 pub fn part_number(test: Test) -> u64
-    ensures { result ≡ partNumber test }
+    ensures { result ≡ part_number test }
 {
     match test {
         Test::Passes => 0,
@@ -76,7 +76,7 @@ pub fn running_words(answer: Running) -> [u64; 2]
 
 // 1 where there is a time, 0 where there is none.
 fn is_there(time: TimeOf) -> u64
-    ensures { result ≡ is_shown (localShown time) }
+    ensures { result ≡ is_shown (local_shown time) }
 {
     match time {
         TimeOf::At(_, _) => 1,
@@ -86,7 +86,7 @@ fn is_there(time: TimeOf) -> u64
 
 // Its minutes on the zone's clock, 0 where there is none.
 fn local_of(time: TimeOf) -> i32
-    ensures { result ≡ minutes_or0 (localShown time) }
+    ensures { result ≡ minutes_or0 (local_shown time) }
 {
     match time {
         TimeOf::At(local, _) => local.0,
@@ -96,7 +96,7 @@ fn local_of(time: TimeOf) -> i32
 
 // And on the reference clock.
 fn reference_of(time: TimeOf) -> i32
-    ensures { result ≡ minutes_or0 (referenceShown time) }
+    ensures { result ≡ minutes_or0 (reference_shown time) }
 {
     match time {
         TimeOf::At(_, reference) => reference.0,

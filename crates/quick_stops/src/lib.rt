@@ -3,7 +3,7 @@
 
 ghost use Rattle.std.specs.Prelude.{true, ◌&&◌, ◌<◌, ◌≤◌, ltb, length};
 ghost use Rattle.iff.specs.Columns.{stop_fields, interval_fields, passed_fields};
-ghost use Rattle.iff.specs.Times.{is_time, interval as isInterval};
+ghost use Rattle.iff.specs.Times.{is_time, interval as is_interval};
 ghost use Rattle.iff.specs.declared.RowFile.TheVariants.{Stations};
 ghost use Rattle.iff.specs.declared.File.TheVariants.{Rows};
 ghost use Rattle.iff_rules.specs.Meaning.{most_stops};
@@ -72,7 +72,7 @@ pub fn interval(
 ) -> Words
     requires { at ≤ length text.now }
     ensures { 0 < result.width
-        → Tested text.now at interval_fields n (ltb stops most_stops && isInterval result.two result.three) (Rows Stations) used stations.now result.one result }
+        → Tested text.now at interval_fields n (ltb stops most_stops && is_interval result.two result.three) (Rows Stations) used stations.now result.one result }
 {
     if !quick_lines::looks(text, at, b"lccccccc,nnnn,nnnn") {
         return untold();

@@ -4,7 +4,7 @@ use Rattle.iff.specs.Files.{PerFile}
 use Rattle.iff.specs.Tables.{Row, joined}
 use Rattle.iff.specs.declared.Test.{Test}
 use Rattle.iff.specs.declared.Test.TheVariants.{Passes, Fails}
-use Rattle.iff_desk.specs.Answers.{gapShown}
+use Rattle.iff_desk.specs.Answers.{gap_shown}
 use Rattle.iff_desk.specs.Sheet.{answer_width, asked, answers_to, sheet_test}
 use Rattle.iff_desk.specs.declared.Change.{Change}
 use Rattle.numbers.specs.Numbers.{minutes_or0}
@@ -17,7 +17,7 @@ signed_word (negsuc n) = 18446744073709551615 - n
 
 -- eight words: the seven of a change's answer, and the gap
 unfoldable pub sheet_words : Change → Row
-sheet_words a = change_words a ++ (signed_word (minutes_or0 (gapShown a)) ∷ [])
+sheet_words a = change_words a ++ (signed_word (minutes_or0 (gap_shown a)) ∷ [])
 
 -- the answers, and the rest of the list as it was
 unfoldable pub answered_in : List Change → List ℕ → ℕ → List ℕ

@@ -2,7 +2,7 @@
 #![tactic(auto)]
 
 ghost use Rattle.std.specs.Prelude.{◌≡◌, ◌+◌, ◌*◌, ◌<◌, ◌≤◌, length, get_or, drop};
-ghost use Rattle.iff.specs.Tables.{room as roomOf, word, row_at, rows_of_width, all_zero, keyed};
+ghost use Rattle.iff.specs.Tables.{room as room_of, word, row_at, rows_of_width, all_zero, keyed};
 ghost use Rattle.tables.specs.Widths.{WidthOf};
 
 // How many words a row of TIMETBLS has.
@@ -28,7 +28,7 @@ pub fn row_width(file: iff::File) -> usize
 
 // How many lines a table of `length` words has room for.
 pub fn room(file: iff::File, length: usize) -> usize
-    ensures { result ≡ roomOf file length }
+    ensures { result ≡ room_of file length }
 {
     let w = row_width(file);
     length / w

@@ -30,13 +30,13 @@ module _ (gap : ℤ) (source : Source) (needed : ℕ) where
   long_enough h = rw h
 
 module _ (gap : ℤ) where
-  pub by_exception : (rank time stationTime : ℕ) → settled gap FromXchanges time (eqb time 999) ≡ by_time gap (BestRow rank time) stationTime
+  pub by_exception : (rank time station_time : ℕ) → settled gap FromXchanges time (eqb time 999) ≡ by_time gap (BestRow rank time) station_time
   unfolding by_time
-  by_exception rank time stationTime = refl
+  by_exception rank time station_time = refl
 
-  pub by_station : (stationTime : ℕ) → settled gap FromStations stationTime (eqb stationTime 99) ≡ by_time gap NoBest stationTime
+  pub by_station : (station_time : ℕ) → settled gap FromStations station_time (eqb station_time 99) ≡ by_time gap NoBest station_time
   unfolding by_time
-  by_station stationTime = refl
+  by_station station_time = refl
 
   module _ (flag : ℕ) (best : Best) (time : ℕ) where
     pub pair_bars : (p : ℕ) → p ≡ 0 → NoBarred gap Pair00 ≡ core gap (Possibility p) flag best time

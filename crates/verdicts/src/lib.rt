@@ -3,7 +3,7 @@
 
 ghost use Rattle.std.specs.Prelude.{◌≡◌, pos};
 ghost use Rattle.std.specs.Int.Signed.{lt_z};
-ghost use Rattle.iff_desk.specs.Changing.{fits_key, fits as fitsBoth, better as betterOf, settled as settledBy, by_time, core as core_of};
+ghost use Rattle.iff_desk.specs.Changing.{fits_key, fits as fits_both, better as better_of, settled as settled_by, by_time, core as core_of};
 
 use iff_desk::{Bar, Best, Change, Pair, Riding, Source};
 use references::{ANY_COMPANY, ANY_MODE};
@@ -28,7 +28,7 @@ fn fits_key(any: u64, key: u64, k: u64) -> bool
 
 // The keys of one side fit a company and a mode.
 pub fn fits(keys: Riding, r: Riding) -> bool
-    ensures { result ≡ fitsBoth keys r }
+    ensures { result ≡ fits_both keys r }
 {
     if fits_key(ANY_COMPANY, keys.company, r.company) {
         return fits_key(ANY_MODE, keys.mode, r.mode);
@@ -38,7 +38,7 @@ pub fn fits(keys: Riding, r: Riding) -> bool
 
 // The highest rank wins, then the larger time.
 pub fn better(best: Best, rank: u64, time: u64) -> Best
-    ensures { result ≡ betterOf best rank time }
+    ensures { result ≡ better_of best rank time }
 {
     match best {
         Best::NoBest => Best::BestRow(rank, time),
@@ -71,7 +71,7 @@ fn is_short(gap: i32, needed: u64) -> bool
 
 // A gap against a needed time: too short, or Yes; Unsettled where the needed time is the most that its columns hold.
 fn settled(gap: i32, source: Source, needed: u64, at_top: bool) -> Change
-    ensures { result ≡ settledBy gap source needed at_top }
+    ensures { result ≡ settled_by gap source needed at_top }
 {
     if is_short(gap, needed) {
         return Change::NoShort(gap, source, needed);

@@ -1,4 +1,7 @@
 -- `timetbls::read_blocks` meets its contract: a stray line is the first fault, or the blocks say all. Assumes nothing.
+use Prim.Native.Nat.{ℕ}
+use mathlib.Core.Path.{sym}
+use lib.ListN.{length-replicate}
 use Rattle.marks.proofs.MarkLaws.{none_marked}
 use Rattle.block_repeats.proofs.ReadLaws.{blocks_ready, read_stray, read_all}
 use Rattle.timetbls.proofs.read_blocks.Goals as goal
@@ -15,3 +18,6 @@ pub returns-in-Passes : goal.returns-in-Passes
 returns-in-Passes c =
     read_all _ _ _ _ _ _ _ _ _ c.stray_test.ensures c.in-Passes.is _ c.count_for_blocks-counts.ensures
     _ _ c.walk_blocks.ensures c.walk_blocks.auto.t
+
+pub slice_bounds-walk_blocks-end : goal.slice_bounds-walk_blocks-end
+slice_bounds-walk_blocks-end c = sym (length-replicate {A = ℕ} 524288 0)

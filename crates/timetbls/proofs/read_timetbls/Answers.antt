@@ -102,10 +102,10 @@ returns-in-All c =
     }
 
 pub shape_of-t-in-Broken : goal.shape_of-t-in-Broken
-shape_of-t-in-Broken c = (returns-in-Broken c).file.auto
+shape_of-t-in-Broken c = (returns-in-Broken c).file.kept
 
 pub shape_of-t-in-Refused : goal.shape_of-t-in-Refused
-shape_of-t-in-Refused c = (returns-in-Refused c).file.auto
+shape_of-t-in-Refused c = (returns-in-Refused c).file.kept
 
 pub shape_of-t-in-All : goal.shape_of-t-in-All
-shape_of-t-in-All c = (returns-in-All c).file.auto
+shape_of-t-in-All c = (returns-in-All c).file.kept
