@@ -1,19 +1,16 @@
 -- The whole of an amendment, over plain variables. Assumes nothing.
+use Rattle.std.specs.Prelude.{Err, None, Ok, Result}
 use Prim.Native.Nat.{ℕ, ◌-◌, ◌≤◌}
 use mathlib.Core.Path.{◌≡◌, refl, ap, ap₂, sym, ◌∙◌}
 use mathlib.Core.List.{List}
 use mathlib.Core.Bool.{true, false, cond}
 use lib.ListN.{length, take, drop}
-use Rattle.iff.specs.Files.{PerFile, of}
-use Rattle.iff.specs.Refusals.{or_else, first_fault, answer, fine}
+use Rattle.iff.specs.Files.{PerFile}
+use Rattle.iff.specs.Refusals.{or_else, first_fault, answer, fine, Answer, Verdict, fault_at}
 use Rattle.iff.specs.Tables.{row_width, rows_in, fill, keys_of}
 use Rattle.iff.specs.declared.File.TheVariants.{Delivery, Timetbls}
 use Rattle.iff.specs.declared.Form.{Form}
-use Rattle.iff.specs.declared.Answer.{Answer}
-use Rattle.iff.specs.declared.Answer.TheVariants.{Refused}
-use Rattle.iff.specs.declared.Place.TheVariants.{Nowhere}
 use Rattle.iff.specs.declared.Reason.TheVariants.{NotSound}
-use Rattle.iff.specs.declared.Verdict.{Verdict}
 use Rattle.iff_rules.specs.Rows.{Context, context_of, form_of, first_of}
 use Rattle.iff_rules.specs.Load.{fault_unless}
 use Rattle.iff_desk.specs.Sound.{sound, rows_of_tables}
@@ -21,11 +18,11 @@ use Rattle.iff_desk.specs.Amend.{place_of, amended_rows, amend_verdict, amend_an
 use Rattle.walks.proofs.TableLaws.{inside, first_inside, first_row_lem}
 use Rattle.references.specs.Agree.{BlockKeys}
 use Rattle.sound_facts.proofs.SoundFacts.{delivery_held, unused_zero, short, once}
-use Rattle.amend_tests.specs.declared.Judged.{Judged}
-use Rattle.amend_tests.specs.declared.Judged.TheVariants.{Refuse, Replace}
 use Rattle.amend_tests.specs.Judged.{judged_verdict, edit_verdict, Judgeable, AmendJudged}
 use Rattle.amend_done.specs.Done.{Doable, table_after, Done}
 use Rattle.amend.specs.Amended.{SoundThere, verdict_there, AmendedThere, Amended}
+use Rattle.amend_tests.specs.declared.Edit.{Edit}
+use Rattle.iff.specs.declared.Fault.{Fault}
 
 -- DELIVERY's first row
 module _ (d t : List ℕ) (h : SoundThere d t) where
@@ -39,7 +36,7 @@ module _ (d t : List ℕ) (h : SoundThere d t) where
     pub judgeable_there : Judgeable form t
     judgeable_there = rw f h.judgeable
 
-    module _ (co mo st fo : List ℕ) (s : ℕ) (b : List ℕ) (j : Judged) (k : AmendJudged form t co mo st fo s b j) where
+    module _ (co mo st fo : List ℕ) (s : ℕ) (b : List ℕ) (j : Result Edit Fault) (k : AmendJudged form t co mo st fo s b j) where
       pub doable : Doable j form b t
       doable =
           record {
@@ -55,10 +52,10 @@ module _ (d t : List ℕ) (h : SoundThere d t) where
           }
 
       -- the table, by whether nothing was refused
-      table_after_lem : (i : Judged) → j ≡ i → table_after form b t i
+      table_after_lem : (i : Result Edit Fault) → j ≡ i → table_after form b t i
           ≡ cond (fine (judged_verdict i)) (fill (row_width Timetbls) (length t) (amended_rows form (place_of s (rows_in Timetbls t)) (rows_in Timetbls t) b)) t
-      table_after_lem (Refuse r p) q = refl
-      table_after_lem (Replace e) q = ap (fill (row_width Timetbls) (length t)) (sym (k.edit e q).rows)
+      table_after_lem (Err fault) q = refl
+      table_after_lem (Ok e) q = ap (fill (row_width Timetbls) (length t)) (sym (k.edit e q).rows)
 
       pub done_there : (services : ℕ) → services ≡ length (keys_of Timetbls (rows_in Timetbls t)) → (r : Answer) (is : List ℕ)
           → Done j form services b t r is → AmendedThere d co mo st fo t s b r is
@@ -82,11 +79,11 @@ module _ (T : PerFile (List ℕ)) (s : ℕ) (b : List ℕ) where
   abbrev context : Context
   context = context_of (rows_of_tables T)
 
-  first_test_lem : amend_verdict T s b ≡ or_else (fault_unless (sound T) NotSound Nowhere) (verdict_there context T.timetbls s b)
+  first_test_lem : amend_verdict T s b ≡ or_else (fault_unless (sound T) NotSound None) (verdict_there context T.timetbls s b)
   unfolding amend_verdict edit_verdict first_fault
   first_test_lem = refl
 
-  pub not_sound : sound T ≡ false → Amended T s b (Refused NotSound Nowhere) T.timetbls
+  pub not_sound : sound T ≡ false → Amended T s b (fault_at NotSound None) T.timetbls
   unfolding amend_answer amend_timetbls
   not_sound e = record { answer = rw (first_test_lem, e); table = rw (first_test_lem, e) }
 

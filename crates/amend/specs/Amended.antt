@@ -1,11 +1,9 @@
 -- What an amendment promises.
 use Rattle.std.specs.Prelude.{ℕ, ◌*◌, ◌<◌, ◌≡◌, List, true, cond, length, drop}
 use Rattle.iff.specs.Files.{PerFile}
-use Rattle.iff.specs.Refusals.{answer, fine}
+use Rattle.iff.specs.Refusals.{answer, fine, Answer, Verdict}
 use Rattle.iff.specs.Tables.{row_width, fill, rows_in, all_zero, keys_of}
 use Rattle.iff.specs.declared.File.TheVariants.{Delivery, Timetbls}
-use Rattle.iff.specs.declared.Answer.{Answer}
-use Rattle.iff.specs.declared.Verdict.{Verdict}
 use Rattle.iff_rules.specs.Rows.{Context, form_of, first_of}
 use Rattle.iff_desk.specs.Amend.{place_of, amended_rows, amend_answer, amend_timetbls}
 use Rattle.references.specs.Agree.{BlockKeys}

@@ -5,7 +5,7 @@
 ghost use Rattle.iff.specs.Files.{eleven};
 ghost use Rattle.amend.specs.Amended.{SoundThere, AmendedThere, Amended};
 
-use iff::{Answer, Place, Reason};
+use iff::{Answer, Reason};
 
 // The tests after 16, and what they lead to, of tables found sound.
 fn amend_there(
@@ -67,7 +67,10 @@ pub fn amend(
         xchanges,
         &mut places,
     ) {
-        return Answer::Refused(Reason::NotSound, Place::Nowhere);
+        return Err(iff::Fault {
+            reason: Reason::NotSound,
+            place: None,
+        });
     }
     amend_there(
         delivery, company, trnsmode, stations, footnote, timetbls, &places, service, block,

@@ -3,21 +3,22 @@
 
 ghost use Rattle.amend_done.specs.Done.{Doable, Done};
 
-use amend_tests::Judged;
 use iff::{Answer, Form};
 
-pub fn carry_out(judged: Judged, form: Form, t: &mut [u64], block: &[u8], services: u64) -> Answer
+pub fn carry_out(
+    judged: Result<amend_tests::Edit, iff::Fault>,
+    form: Form,
+    t: &mut [u64],
+    block: &[u8],
+    services: u64,
+) -> Answer
     requires { Doable judged form block.now t.old }
     ensures { Done judged form services block.now t.old result t.new }
 {
     let days = form.days as u64;
-    match judged {
-        Judged::Refuse(why, place) => Answer::Refused(why, place),
-        Judged::Replace(edit) => {
-            block_edits::replace_block(
-                t, edit.used, edit.from, edit.to, block, form, edit.lines, edit.stops,
-            );
-            Answer::Accepted(days, services)
-        }
-    }
+    let edit = judged?;
+    block_edits::replace_block(
+        t, edit.used, edit.from, edit.to, block, form, edit.lines, edit.stops,
+    );
+    Ok(iff::Accepted { days, services })
 }

@@ -1,4 +1,5 @@
 -- AN ACCEPTED AMENDMENT: what each of its tests says, the table that is written, the rows that it holds, and the services of these. Assumes nothing.
+use Rattle.std.specs.Prelude.{Err, Ok}
 use Prim.Native.Nat.{ℕ, suc, ◌*◌, ◌≤◌}
 use mathlib.Core.Path.{◌≡◌, refl, ap, sym, ◌∙◌}
 use mathlib.Core.List.{List}
@@ -9,11 +10,9 @@ use lib.ListN.{length, get_or, take}
 use borrow.Author.Tests.{leb-true}
 use Rattle.iff.specs.Lists.{has}
 use Rattle.iff.specs.Files.{PerFile, limit}
-use Rattle.iff.specs.Refusals.{fine}
+use Rattle.iff.specs.Refusals.{fine, Verdict}
 use Rattle.iff.specs.Tables.{Row, row_width, fill, rows_in, keys_of}
 use Rattle.iff.specs.declared.File.TheVariants.{Timetbls}
-use Rattle.iff.specs.declared.Verdict.{Verdict}
-use Rattle.iff.specs.declared.Verdict.TheVariants.{Fine, Fault}
 use Rattle.iff_rules.specs.Rows.{as_block, Context, context_of}
 use Rattle.iff_rules.specs.Load.{block_verdict}
 use Rattle.iff_laws.specs.ScanLaws.{no_fault_all, unless_passes, verdict_fine}
@@ -26,9 +25,9 @@ use Rattle.tables.proofs.Filled.{rows_in_fill, length_fill}
 use Rattle.amend_laws.proofs.NewBlock.{OneBlock, one_block, new_block, row_names, rows_in_use}
 use Rattle.amend_laws.proofs.AmendedRows.{service_in, place_inside, place_names, amended_keys, amended_each, amended_length}
 
-pub fine_is : (v : Verdict) → fine v ≡ true → v ≡ Fine
-fine_is Fine e = refl
-fine_is (Fault r p) e = absurd (false≢true e)
+pub fine_is : (v : Verdict) → fine v ≡ true → v ≡ Ok tt
+fine_is (Ok _) e = refl
+fine_is (Err fault) e = absurd (false≢true e)
 
 -- an amendment's tables, a service and a block: the rules' context, the rows of TIMETBLS, the service's place, and the rows after it
 module _ (T : PerFile (List ℕ)) where
@@ -64,9 +63,9 @@ module _ (T : PerFile (List ℕ)) (s : ℕ) (b : List ℕ) where
     pub is_named_lem : has s (keys_of Timetbls rs) ≡ true
     pub short : edited_length c k rs b ≤ limit
     pub roomy : edited_lines k rs b * row_width Timetbls ≤ length T.timetbls
-    pub right : block_verdict c (take k (keys_of Timetbls rs)) (suc k) (as_block b) ≡ Fine
+    pub right : block_verdict c (take k (keys_of Timetbls rs)) (suc k) (as_block b) ≡ Ok tt
 
-  pub accepted : amend_verdict T s b ≡ Fine → Accepted
+  pub accepted : amend_verdict T s b ≡ Ok tt → Accepted
   unfolding amend_verdict context_of
   accepted e =
       record {
@@ -78,7 +77,7 @@ module _ (T : PerFile (List ℕ)) (s : ℕ) (b : List ℕ) where
         right = no_fault_all _ e 5 (omega arith);
       }
 
-  module _ (e : amend_verdict T s b ≡ Fine) where
+  module _ (e : amend_verdict T s b ≡ Ok tt) where
     a : Accepted
     a = accepted e
 

@@ -1,5 +1,6 @@
 -- LAW: AN ACCEPTED AMENDMENT OF SOUND TABLES IS SOUND. Over the definitions alone; it assumes that the block's bytes are bytes, as the type of a
 -- lent `&[u8]` says, and nothing else. That the tables were sound is the amendment's first test.
+use Rattle.std.specs.Prelude.{Ok}
 use Prim.Native.Nat.{ℕ, suc, ◌-◌, ◌*◌, ◌<◌}
 use mathlib.Core.Path.{◌≡◌, ap, sym, ◌∙◌}
 use mathlib.Core.List.{List}
@@ -12,7 +13,6 @@ use Rattle.iff.specs.Refusals.{fine}
 use Rattle.iff.specs.Lines.{size}
 use Rattle.iff.specs.Tables.{Row, row_width, all_zero, keys_of}
 use Rattle.iff.specs.declared.File.TheVariants.{Timetbls}
-use Rattle.iff.specs.declared.Verdict.TheVariants.{Fine}
 use Rattle.iff_rules.specs.Rows.{block_rows, stops_in, lines_in, as_block, Context, first_of}
 use Rattle.iff_desk.specs.Sound.{rows_of_tables, row_size, sound_rows, sound_table, sound}
 use Rattle.iff_desk.specs.Amend.{amend_verdict, amend_timetbls}
@@ -31,7 +31,7 @@ use Rattle.amend_laws.proofs.OtherTables.{with_timetbls, sound_with_lem}
 use Rattle.amend_laws.proofs.Accepted.{fine_is, context_in, rows_were, place_in, rows_after, Accepted, accepted}
 use Rattle.amend_laws.proofs.Accepted.{same_service, table_is, used, as_lines, rows_are, keys_are}
 
-module _ (T : PerFile (List ℕ)) (s : ℕ) (b : List ℕ) (bytes : EachByte 256 b) (e : amend_verdict T s b ≡ Fine) where
+module _ (T : PerFile (List ℕ)) (s : ℕ) (b : List ℕ) (bytes : EachByte 256 b) (e : amend_verdict T s b ≡ Ok tt) where
   abbrev c : Context
   c = context_in T
 

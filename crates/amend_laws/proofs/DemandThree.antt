@@ -1,22 +1,20 @@
 -- LAW: AN AMENDMENT IS A LOAD OF THE EDITED TEXT. Of a delivery that was accepted, and a service that its tables hold: the amendment of the tables
 -- answers what a load of the edited text answers, the same number at the same place or the same days and services; and where it is accepted, its
 -- tables are that load's. Over the definitions alone; it assumes that the files' bytes are bytes, and nothing else.
+use Rattle.std.specs.Prelude.{None, Ok}
 use Prim.Native.Nat.{ℕ, suc}
 use mathlib.Core.Path.{◌≡◌, refl, ap, sym, subst, ◌∙◌}
 use mathlib.Core.List.{List, [], ◌∷◌}
 use mathlib.Core.Bool.{Bool, true, cond}
 use lib.ListN.{length, take, replicate}
 use Rattle.iff.specs.Lists.{has}
-use Rattle.iff.specs.Files.{PerFile, per_file}
-use Rattle.iff.specs.Refusals.{first_fault, fine, answer}
+use Rattle.iff.specs.Files.{PerFile}
+use Rattle.iff.specs.Refusals.{first_fault, fine, answer, Verdict}
 use Rattle.iff.specs.Lines.{lines}
 use Rattle.iff.specs.Tables.{Row, row_width, fill, keys_of}
 use Rattle.iff.specs.declared.File.TheVariants.{Timetbls}
 use Rattle.iff.specs.declared.Form.{Form}
 use Rattle.iff.specs.declared.Reason.TheVariants.{NotOneBlock, NoService, NotSound}
-use Rattle.iff.specs.declared.Place.TheVariants.{Nowhere}
-use Rattle.iff.specs.declared.Verdict.{Verdict}
-use Rattle.iff.specs.declared.Verdict.TheVariants.{Fine}
 use Rattle.iff_rules.specs.Rows.{as_block, rows_of_lines, rows_of_files, delivery_rows, form_of, first_of, Context, context_of}
 use Rattle.iff_rules.specs.References.{names}
 use Rattle.iff_rules.specs.Load.{fault_unless, length_verdict, room_verdict, block_verdict, header_of, file_verdict, load_verdict, load_answer, filled, load_table}
@@ -39,16 +37,16 @@ verdict_of D right n s b =
     let c = context_of D in
     let k = place_of s D.timetbls in
     first_fault
-    (fault_unless right NotSound Nowhere
-    ∷ fault_unless (is_one_block s (lines b)) NotOneBlock Nowhere
-    ∷ fault_unless (names c Timetbls s) NoService Nowhere
+    (fault_unless right NotSound None
+    ∷ fault_unless (is_one_block s (lines b)) NotOneBlock None
+    ∷ fault_unless (names c Timetbls s) NoService None
     ∷ length_verdict Timetbls (edited_length c k D.timetbls b)
     ∷ room_verdict Timetbls (edited_lines k D.timetbls b) n
     ∷ block_verdict c (take k (c.keys Timetbls)) (suc k) (as_block b)
     ∷ [])
 
 -- A DELIVERY WITHOUT FAULT
-module _ (F : PerFile (List ℕ)) (R : PerFile ℕ) (bytes : OfBytes F) (e : load_verdict F R ≡ Fine) where
+module _ (F : PerFile (List ℕ)) (R : PerFile ℕ) (bytes : OfBytes F) (e : load_verdict F R ≡ Ok tt) where
   abbrev D : PerFile (List Row)
   D = rows_of_files F
 
@@ -109,9 +107,9 @@ module _ (F : PerFile (List ℕ)) (R : PerFile ℕ) (bytes : OfBytes F) (e : loa
         ∷ [])
     amend_with =
         as_rows_say
-        ∙ past_fine Fine _ refl
-        ∙ past_fine (fault_unless (is_one_block s (lines b)) NotOneBlock Nowhere) _ (ap (λ (q : Bool). fault_unless q NotOneBlock Nowhere) one)
-        ∙ past_fine (fault_unless (names c Timetbls s) NoService Nowhere) _ (ap (λ (q : Bool). fault_unless q NoService Nowhere) held)
+        ∙ past_fine (Ok tt) _ refl
+        ∙ past_fine (fault_unless (is_one_block s (lines b)) NotOneBlock None) _ (ap (λ (q : Bool). fault_unless q NotOneBlock None) one)
+        ∙ past_fine (fault_unless (names c Timetbls s) NoService None) _ (ap (λ (q : Bool). fault_unless q NoService None) held)
         ∙ (λ i. first_fault (length_verdict Timetbls (tells.long i) ∷ room_verdict Timetbls (tells.many i) R.timetbls ∷ judged i ∷ []))
 
     same_verdict : amend_verdict T s b ≡ load_verdict (edited_files F s b) R
@@ -126,8 +124,8 @@ module _ (F : PerFile (List ℕ)) (R : PerFile ℕ) (bytes : OfBytes F) (e : loa
         λ i. answer (same_verdict i) (q i).form.days (length ((q i).keys Timetbls))
 
     -- and, where it is accepted, the tables
-    module _ (a : amend_verdict T s b ≡ Fine) where
-      pub still_fine : load_verdict (edited_files F s b) R ≡ Fine
+    module _ (a : amend_verdict T s b ≡ Ok tt) where
+      pub still_fine : load_verdict (edited_files F s b) R ≡ Ok tt
       still_fine = sym same_verdict ∙ a
 
       table_same : load_table Timetbls (edited_files F s b) R ≡ amend_timetbls T s b

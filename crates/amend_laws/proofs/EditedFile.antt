@@ -1,5 +1,6 @@
 -- TIMETBLS, accepted, with one block in the place of its service's lines: the edited text's lines, its length, its verdict and its rows, told by
 -- the rows of the text as it was. Assumes that the bytes are bytes, and nothing else.
+use Rattle.std.specs.Prelude.{Ok}
 use Prim.Native.Nat.{ℕ, suc, ◌+◌, ◌<◌}
 use mathlib.Core.Path.{◌≡◌, refl, ap, sym, ◌∙◌}
 use mathlib.Core.List.{List, [], ◌∷◌, ◌++◌, map}
@@ -11,13 +12,11 @@ use lib.Seq.{split_at, length-take-le}
 use borrow.Author.Tests.{eqb-true, eq-eqb, ltb-true, lt-ltb}
 use Rattle.iff.specs.Bytes.{at}
 use Rattle.iff.specs.Lists.{Group, front, groups, members, flat, any, total, same, has}
-use Rattle.iff.specs.Refusals.{verdict_at, scan}
+use Rattle.iff.specs.Refusals.{verdict_at, scan, at_place}
 use Rattle.iff.specs.Lines.{Line, lines, text, letter, is_hash}
 use Rattle.iff.specs.Columns.{first_fields, picture, fits}
 use Rattle.iff.specs.Tables.{Row, is_hash_row, keys_of, rising, padded}
 use Rattle.iff.specs.declared.File.TheVariants.{Timetbls}
-use Rattle.iff.specs.declared.Place.TheVariants.{At}
-use Rattle.iff.specs.declared.Verdict.TheVariants.{Fine}
 use Rattle.iff_rules.specs.Order.{known_in_block}
 use Rattle.iff_rules.specs.Rows.{blocks_rows, blocks_of, as_block, first_row_of, rows_of_lines, Context}
 use Rattle.iff_rules.specs.Load.{first_line_test, stray_verdict, block_verdict, service_of, timetbls_verdict, file_verdict}
@@ -59,7 +58,7 @@ has_any d key s xs e =
     (record { which = z.which; inside = z.inside; has_it = eq-eqb _ _ (sym (eqb-true s (key (get_or xs z.which d)) z.has_it)) })
 
 module _ (c : Context) (header : List ℕ) (t : List ℕ) (l : Line) (ls : List Line) (is : lines t ≡ l ∷ ls) (bytes : Each InBytes (l ∷ ls))
-    (e : file_verdict c header Timetbls (l ∷ ls) ≡ Fine) where
+    (e : file_verdict c header Timetbls (l ∷ ls) ≡ Ok tt) where
   -- THE TEXT AS IT WAS
   abbrev gs : List (Group Line)
   gs = blocks_of ls
@@ -67,17 +66,17 @@ module _ (c : Context) (header : List ℕ) (t : List ℕ) (l : Line) (ls : List 
   first_fine : FirstFine header l
   first_fine = (file_fine c header Timetbls (λ ks q. q) (l ∷ ls) e).0
 
-  later_fine : timetbls_verdict c ls ≡ Fine
+  later_fine : timetbls_verdict c ls ≡ Ok tt
   later_fine = (file_fine c header Timetbls (λ ks q. q) (l ∷ ls) e).1
 
-  first_passes : verdict_at (At Timetbls 0 1) (first_line_test (same l.body header) l) ≡ Fine
+  first_passes : verdict_at (at_place Timetbls 0 1) (first_line_test (same l.body header) l) ≡ Ok tt
   unfolding file_verdict
   first_passes = (cons_fine _ _ e).0
 
   not_hash : is_hash l ≡ false
   unfolding first_line_test
   not_hash =
-      let s = (line_passes _).0 (verdict_fine (At Timetbls 0 1) (first_line_test (same l.body header) l) first_passes) in
+      let s = (line_passes _).0 (verdict_fine (at_place Timetbls 0 1) (first_line_test (same l.body header) l) first_passes) in
       let z : letter l ≡ at = eqb-true _ _ s.is_here in
       rw z
 
@@ -241,12 +240,12 @@ module _ (c : Context) (header : List ℕ) (t : List ℕ) (l : Line) (ls : List 
         }
 
 -- THE LAW of the file: an accepted TIMETBLS of bytes, one block, and a service that is held
-module _ (c : Context) (header t : List ℕ) (bytes : EachByte 256 t) (some : 0 < length t) (e : file_verdict c header Timetbls (lines t) ≡ Fine) (s : ℕ)
+module _ (c : Context) (header t : List ℕ) (bytes : EachByte 256 t) (some : 0 < length t) (e : file_verdict c header Timetbls (lines t) ≡ Ok tt) (s : ℕ)
     (b : List ℕ) (one : is_one_block s (lines b) ≡ true) (held : has s (keys_of Timetbls (rows_of_lines c.form Timetbls (lines t))) ≡ true) where
   abbrev Edited : List Line → Type 0
   Edited ks = Told c header (rows_of_lines c.form Timetbls ks) s b (edited c.form t s b) × (EachByte 256 b → EachByte 256 (edited c.form t s b))
 
-  by_lines : (ks : List Line) → lines t ≡ ks → 0 < length ks → Each InBytes ks → file_verdict c header Timetbls ks ≡ Fine
+  by_lines : (ks : List Line) → lines t ≡ ks → 0 < length ks → Each InBytes ks → file_verdict c header Timetbls ks ≡ Ok tt
       → has s (keys_of Timetbls (rows_of_lines c.form Timetbls ks)) ≡ true → Edited ks
   unfolding rows_of_lines
   by_lines [] q n u e h = absurd (omega arith)

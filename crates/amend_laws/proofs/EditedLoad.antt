@@ -1,5 +1,6 @@
 -- A LOAD of an accepted delivery of which TIMETBLS alone is another text, with the same services: its verdict is that of TIMETBLS, since the rules
 -- ask the other files for nothing new; and where it is accepted, the other ten tables are as they were. Assumes nothing.
+use Rattle.std.specs.Prelude.{Ok}
 use Prim.Native.Nat.{ℕ, ◌<◌}
 use mathlib.Core.Path.{◌≡◌, refl, ap, sym, ◌∙◌}
 use mathlib.Core.List.{List, [], ◌∷◌}
@@ -15,14 +16,13 @@ use Rattle.iff.specs.declared.RowFile.TheVariants.{Company, Country, Trnsmode, S
 use Rattle.iff.specs.declared.GroupFile.TheVariants.{Timezone, Footnote, Changes, Xfootnote, Xchanges}
 use Rattle.iff.specs.declared.File.{File}
 use Rattle.iff.specs.declared.File.TheVariants.{Delivery, Rows, Groups, Timetbls}
-use Rattle.iff.specs.declared.Verdict.TheVariants.{Fine}
 use Rattle.iff_rules.specs.Rows.{rows_of_lines, rows_of_files, delivery_rows, form_of, first_of, Context, context_of}
 use Rattle.iff_rules.specs.Load.{length_verdict, present_in, absence_verdict, room_verdict, over_files, header_of, file_verdict, contents_verdict, load_verdict, filled, load_table}
 use Rattle.iff_laws.specs.ScanLaws.{no_fault_all}
 use Rattle.amend_laws.proofs.OtherTables.{with_timetbls, same_context}
 use Rattle.amend_laws.proofs.EditedVerdicts.{lone_fault}
 
-module _ (F : PerFile (List ℕ)) (R : PerFile ℕ) (e : load_verdict F R ≡ Fine) (t : List ℕ) where
+module _ (F : PerFile (List ℕ)) (R : PerFile ℕ) (e : load_verdict F R ≡ Ok tt) (t : List ℕ) where
   abbrev D : PerFile (List Row)
   D = rows_of_files F
 
@@ -53,7 +53,7 @@ module _ (F : PerFile (List ℕ)) (R : PerFile ℕ) (e : load_verdict F R ≡ Fi
   rooms = lone_fault _ 7 (room_verdict Timetbls (length (lines t)) R.timetbls) (omega arith) (no_fault_all _ e 2 (omega arith))
 
   -- the lines, file by file
-  was_read : contents_verdict c D F ≡ Fine
+  was_read : contents_verdict c D F ≡ Ok tt
   unfolding load_verdict
   was_read = no_fault_all _ e 3 (omega arith)
 
@@ -79,7 +79,7 @@ module _ (F : PerFile (List ℕ)) (R : PerFile ℕ) (e : load_verdict F R ≡ Fi
         rw (lengths, absences, rooms, contents, lt-ltb 0 (length t) h)
 
   -- THE TABLES, where it is accepted
-  module _ (a : load_verdict G R ≡ Fine) where
+  module _ (a : load_verdict G R ≡ Ok tt) where
     table_stays : (f : File) → of (rows_of_files G) f ≡ of D f → load_table f G R ≡ load_table f F R
     unfolding load_table
     table_stays f q = λ i. cond (fine ((a ∙ sym e) i)) (filled f (of R f) (q i)) (replicate (of R f) 0)

@@ -1,18 +1,17 @@
 -- One test put in the place of another, where all the others pass: in a list of tests, and in a scan that keeps the keys it has seen. Laws over
 -- plain lists. Assumes nothing.
+use Rattle.std.specs.Prelude.{Ok}
 use Prim.Native.Nat.{ℕ, zero, suc, ◌+◌, ◌<◌}
 use mathlib.Core.Path.{◌≡◌, ap, ◌∙◌}
 use mathlib.Core.List.{List, [], ◌∷◌, ◌++◌, map, append_assoc, append-nil}
 use native.Mathlib.Nat.{add-zero}
 use native.Mathlib.Omega.{arith}
 use lib.ListN.{length, set}
-use Rattle.iff.specs.Refusals.{or_else, first_fault, scan}
-use Rattle.iff.specs.declared.Verdict.{Verdict}
-use Rattle.iff.specs.declared.Verdict.TheVariants.{Fine}
+use Rattle.iff.specs.Refusals.{or_else, first_fault, scan, Verdict}
 use Rattle.iff_laws.specs.ScanLaws.{or_fine, or_nothing, cons_fine}
 
 -- its verdict is the list's
-pub lone_fault : (vs : List Verdict) (n : ℕ) (v : Verdict) → n < length vs → first_fault vs ≡ Fine → first_fault (set vs n v) ≡ v
+pub lone_fault : (vs : List Verdict) (n : ℕ) (v : Verdict) → n < length vs → first_fault vs ≡ Ok tt → first_fault (set vs n v) ≡ v
 unfolding first_fault
 lone_fault [] n v h e = absurd (omega arith)
 lone_fault (w ∷ vs) zero v h e = ap (or_else v) (cons_fine w vs e).1 ∙ or_nothing v
@@ -21,7 +20,7 @@ lone_fault (w ∷ vs) (suc n) v h e =
     ap (λ (u : Verdict). or_else u (first_fault (set vs n v))) z.0 ∙ lone_fault vs n v (omega arith) z.1
 
 -- a test that passes is none
-pub past_fine : (v : Verdict) (vs : List Verdict) → v ≡ Fine → first_fault (v ∷ vs) ≡ first_fault vs
+pub past_fine : (v : Verdict) (vs : List Verdict) → v ≡ Ok tt → first_fault (v ∷ vs) ≡ first_fault vs
 unfolding first_fault
 past_fine v vs e = ap (λ (u : Verdict). or_else u (first_fault vs)) e
 
@@ -30,7 +29,7 @@ module _ {A : Type 0} (test : List ℕ → ℕ → A → Verdict) (key : A → �
   abbrev Scanned : List ℕ → ℕ → List A → Verdict
   Scanned seen i xs = scan test (λ seen x. seen ++ (key x ∷ [])) seen i xs
 
-  pub scan_replaced : (seen : List ℕ) (i : ℕ) (xs ys : List A) → Scanned seen i (xs ++ (old ∷ ys)) ≡ Fine
+  pub scan_replaced : (seen : List ℕ) (i : ℕ) (xs ys : List A) → Scanned seen i (xs ++ (old ∷ ys)) ≡ Ok tt
       → Scanned seen i (xs ++ (new ∷ ys)) ≡ test (seen ++ map key xs) (i + length xs) new
   unfolding scan
   scan_replaced seen i [] ys e =

@@ -1,5 +1,6 @@
 -- THE BLOCK OF AN AMENDMENT: a text that passes 11's test is one block of lines that names its service, and its rows are one block of a table;
 -- where its lines pass, each row is in use. Assumes nothing.
+use Rattle.std.specs.Prelude.{Ok, Option}
 use Prim.Native.Nat.{ℕ}
 use mathlib.Core.Path.{◌≡◌, refl}
 use mathlib.Core.List.{List, [], ◌∷◌}
@@ -9,7 +10,7 @@ use lib.ListN.{length, get_or, drop}
 use borrow.Author.Tests.{eqb-true}
 use Rattle.iff.specs.Bytes.{hash, at, digit}
 use Rattle.iff.specs.Lists.{Group, members, all, any}
-use Rattle.iff.specs.Refusals.{verdict_at}
+use Rattle.iff.specs.Refusals.{verdict_at, at_place}
 use Rattle.iff.specs.Lines.{Line, lines, letter, is_hash, no_line}
 use Rattle.iff.specs.Columns.{cols, Number, columns, fields_of, record_of, block_record, record_fields}
 use Rattle.iff.specs.Values.{number_of, readable, words, field_words}
@@ -18,9 +19,6 @@ use Rattle.iff.specs.Words.{named}
 use Rattle.iff.specs.declared.File.TheVariants.{Timetbls}
 use Rattle.iff.specs.declared.Form.{Form}
 use Rattle.iff.specs.declared.InBlock.{InBlock}
-use Rattle.iff.specs.declared.Place.{Place}
-use Rattle.iff.specs.declared.Place.TheVariants.{At}
-use Rattle.iff.specs.declared.Verdict.TheVariants.{Fine}
 use Rattle.iff_rules.specs.Rows.{row_of, block_row, block_rows_from, block_rows, stops_in, lines_in, as_block, Context}
 use Rattle.iff_rules.specs.Load.{block_test, block_start, block_next, block_verdict, service_of}
 use Rattle.iff_laws.specs.ScanLaws.{cons_fine, verdict_fine}
@@ -36,6 +34,7 @@ use Rattle.block_rows.proofs.RowLaws.{rows_used}
 use Rattle.sound_laws.proofs.PassLaws.{Opens, scan_each}
 use Rattle.sound_laws.proofs.TimetblsLaws.{block_of, none_open}
 use Rattle.amend_laws.proofs.GroupLists.{all_of_each}
+use Rattle.iff.specs.declared.Place.{Place}
 
 -- ONE BLOCK OF LINES
 -- the number in a `#` line
@@ -105,18 +104,18 @@ any_line : (ls : List Line) → Each (λ l. Unit {0}) ls
 any_line [] = tt
 any_line (l ∷ ls) = (tt, any_line ls)
 
-line_legible : (c : Context) (seen : List ℕ) (st : InBlock) (p : Place) (l : Line) → verdict_at p (block_test c seen st l) ≡ Fine → legible c.form l ≡ true
+line_legible : (c : Context) (seen : List ℕ) (st : InBlock) (p : Option Place) (l : Line) → verdict_at p (block_test c seen st l) ≡ Ok tt → legible c.form l ≡ true
 unfolding block_test
 line_legible c seen st p l e =
     let s = (line_passes _).0 (verdict_fine p (block_test c seen st l) e) in
     legible_line c.form l s.is_laid_out (both (readable l.body (fields_of c.form Timetbls (letter l))) _ s.is_valued).0
 
-module _ (c : Context) (seen : List ℕ) (o : ℕ) (g : Group Line) (e : block_verdict c seen o g ≡ Fine) where
+module _ (c : Context) (seen : List ℕ) (o : ℕ) (g : Group Line) (e : block_verdict c seen o g ≡ Ok tt) where
   lines_legible : Each (λ l. legible c.form l ≡ true) (members g)
   unfolding block_verdict
   lines_legible =
-      scan_each (λ st j l. verdict_at (At Timetbls o j) (block_test c seen st l)) block_next (λ l. Unit {0}) (λ l. legible c.form l ≡ true)
-      (λ st j l u q. line_legible c seen st (At Timetbls o j) l q) block_start 1 (members g) (any_line (members g)) (cons_fine _ _ e).0
+      scan_each (λ st j l. verdict_at (at_place Timetbls o j) (block_test c seen st l)) block_next (λ l. Unit {0}) (λ l. legible c.form l ≡ true)
+      (λ st j l u q. line_legible c seen st (at_place Timetbls o j) l q) block_start 1 (members g) (any_line (members g)) (cons_fine _ _ e).0
 
   pub rows_in_use : Each (Used (row_width Timetbls)) (block_rows c.form g)
   rows_in_use = rows_used c.form (stops_in g) (lines_in g) 1 (members g) (all_of_each (legible c.form) (members g) lines_legible)

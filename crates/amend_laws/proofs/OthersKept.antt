@@ -1,5 +1,6 @@
 -- LAW: EVERY OTHER SERVICE KEEPS ITS ROWS AND ITS TURN. The blocks of an amended table are those of before with the one replaced, what stands before
 -- the first is as it was, and so are the services in their order. Over the definitions alone. Assumes nothing.
+use Rattle.std.specs.Prelude.{Ok}
 use Prim.Native.Nat.{ℕ, suc, ◌<◌}
 use mathlib.Core.Path.{◌≡◌, refl, ap, sym, ◌∙◌}
 use mathlib.Core.List.{List, [], ◌∷◌, ◌++◌}
@@ -13,7 +14,6 @@ use Rattle.iff.specs.Files.{PerFile}
 use Rattle.iff.specs.Refusals.{fine}
 use Rattle.iff.specs.Tables.{Row, is_hash_row, rows_in, keys_of}
 use Rattle.iff.specs.declared.File.TheVariants.{Timetbls}
-use Rattle.iff.specs.declared.Verdict.TheVariants.{Fine}
 use Rattle.iff_rules.specs.Rows.{block_rows, as_block, context_of}
 use Rattle.iff_desk.specs.Sound.{rows_of_tables}
 use Rattle.iff_desk.specs.Store.{rows_of_groups, group_of, service_rows}
@@ -90,7 +90,7 @@ module _ (T : PerFile (List ℕ)) (s : ℕ) (b : List ℕ) where
     pub own : service_rows tables_now s ≡ block_rows (context_in T).form (as_block b)
     pub others : (x : ℕ) → (s ≡ x → ⊥) → service_rows tables_now x ≡ service_rows (rows_of_tables T) x
 
-  module _ (e : amend_verdict T s b ≡ Fine) where
+  module _ (e : amend_verdict T s b ≡ Ok tt) where
     a : Accepted T s b
     a = accepted T s b e
 
@@ -131,7 +131,7 @@ module _ (T : PerFile (List ℕ)) (s : ℕ) (b : List ℕ) where
 -- THE LAW
 pub others_kept : (T : PerFile (List ℕ)) (s : ℕ) (b : List ℕ) → fine (amend_verdict T s b) ≡ true → OthersKept T s b
 others_kept T s b e =
-    let x : amend_verdict T s b ≡ Fine = fine_is (amend_verdict T s b) e in
+    let x : amend_verdict T s b ≡ Ok tt = fine_is (amend_verdict T s b) e in
     record {
       long = same_length T s b x;
       rows = rows_are T s b x;

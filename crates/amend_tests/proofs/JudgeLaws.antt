@@ -1,4 +1,5 @@
 -- Each way out of the tests of an amendment is its first fault. Assumes nothing.
+use Rattle.std.specs.Prelude.{Err, None, Ok, Option, Result}
 use Prim.Native.Nat.{ℕ, suc, ◌+◌, ◌-◌, ◌/◌, ◌≤◌, ◌<◌}
 use mathlib.Core.Path.{◌≡◌, refl, ap, ap₂, sym, ◌∙◌}
 use mathlib.Core.List.{List, [], ◌∷◌, ◌++◌}
@@ -11,18 +12,14 @@ use lib.ListN.{length, get_or, take, drop}
 use Rattle.iff.specs.Bytes.{digit}
 use Rattle.iff.specs.Lists.{total, has, all}
 use Rattle.iff.specs.Lines.{Line, lines, is_hash, no_line}
-use Rattle.iff.specs.Refusals.{or_else, first_fault, fine}
+use Rattle.iff.specs.Refusals.{or_else, first_fault, fine, Verdict, at_place, fault_at}
 use Rattle.iff.specs.Tables.{Row, row_width, rows_in, keys_of}
 use Rattle.iff.specs.Words.{named}
 use Rattle.iff.specs.Values.{number_of}
 use Rattle.iff.specs.declared.File.TheVariants.{Timetbls}
 use Rattle.iff.specs.declared.Form.{Form}
-use Rattle.iff.specs.declared.Place.{Place}
-use Rattle.iff.specs.declared.Place.TheVariants.{Nowhere, At}
 use Rattle.iff.specs.declared.Reason.{Reason}
 use Rattle.iff.specs.declared.Reason.TheVariants.{NoRoom, NotOneBlock, NoService}
-use Rattle.iff.specs.declared.Verdict.{Verdict}
-use Rattle.iff.specs.declared.Verdict.TheVariants.{Fine, Fault}
 use Rattle.iff_rules.specs.Rows.{row_of, block_rows, as_block, Context}
 use Rattle.iff_rules.specs.Unique.{fresh_key}
 use Rattle.iff_rules.specs.Load.{fault_unless, length_verdict, room_verdict, block_verdict}
@@ -35,8 +32,6 @@ use Rattle.keys.specs.Blocks.{rows_between}
 use Rattle.references.specs.Agree.{BlockKeys, BlockKeysAmong}
 use Rattle.references.specs.declared.BlockCounts.{BlockCounts}
 use Rattle.legs.proofs.RowLaws.{block_lines_lem}
-use Rattle.blocks.specs.declared.Checked.{Checked}
-use Rattle.blocks.specs.declared.Checked.TheVariants.{Whole, Broken}
 use Rattle.blocks.specs.Whole.{BlockChecked}
 use Rattle.block_services.specs.Heads.{head_word}
 use Rattle.block_services.proofs.ServiceLaws.{head_service}
@@ -50,31 +45,34 @@ use Rattle.edit_sizes.specs.Edits.{Editable, edited_bytes, sizes_verdict}
 use Rattle.service_places.specs.Placed.{services_before, Placed}
 use Rattle.service_places.proofs.PlaceLaws.{not_held, held, placed}
 use Rattle.amend_tests.specs.declared.Edit.{Edit}
-use Rattle.amend_tests.specs.declared.Judged.{Judged}
-use Rattle.amend_tests.specs.declared.Judged.TheVariants.{Refuse, Replace}
 use Rattle.amend_tests.specs.Judged.{judged_verdict, BlockEdit, BlockJudged, edit_verdict, Judgeable, Replaces, AmendJudged}
+use Rattle.blocks.specs.Drive.{held_at, size_of}
+use Rattle.blocks.specs.declared.BlockSize.{BlockSize}
+use Rattle.blocks.specs.declared.LineFault.{LineFault}
+use Rattle.iff.specs.declared.Fault.{Fault}
+use Rattle.iff.specs.declared.Place.{Place}
 
 abbrev width : ℕ
 width = row_width Timetbls
 
 -- a refusal replaces nothing
-no_edit : {A : Type 0} (r : Reason) (p : Place) (e : Edit) → Refuse r p ≡ Replace e → A
-no_edit r p e q = absurd (false≢true (ap (λ (j : Judged). fine (judged_verdict j)) q))
+no_edit : {A : Type 0} (r : Reason) (p : Option Place) (e : Edit) → fault_at r p ≡ Ok e → A
+no_edit r p e q = absurd (false≢true (ap (λ (j : Result Edit Fault). fine (judged_verdict j)) q))
 
 -- THE BLOCK
 module _ (form : Form) (b t : List ℕ) (used from to : ℕ) (co mo st fo : List ℕ) (n : BlockCounts)
-    (agree : (c : Context) → BlockKeys c co mo st fo → BlockKeysAmong c n co mo st fo) (x : Checked) (k : BlockChecked form b true n co mo st fo x) where
-  pub block_broken : (w : Reason) (line o : ℕ) → x ≡ Broken w line → o ≡ suc (length (services_before t from))
-      → BlockJudged form b t used from to co mo st fo (Refuse w (At Timetbls o line))
+    (agree : (c : Context) → BlockKeys c co mo st fo → BlockKeysAmong c n co mo st fo) (x : Result BlockSize LineFault) (k : BlockChecked form b true n co mo st fo x) where
+  pub block_broken : (w : Reason) (line o : ℕ) → x ≡ held_at w line → o ≡ suc (length (services_before t from))
+      → BlockJudged form b t used from to co mo st fo (fault_at w (at_place Timetbls o line))
   block_broken w line o e q =
       record {
-        says = λ c f a seen new. ap (λ (i : ℕ). Fault w (At Timetbls i line)) q
+        says = λ c f a seen new. ap (λ (i : ℕ). fault_at w (at_place Timetbls i line)) q
             ∙ rw e at (k.says c f (agree c a) seen new (suc (length (services_before t from))));
-        edit = λ d z. no_edit w (At Timetbls o line) d z;
+        edit = λ d z. no_edit w (at_place Timetbls o line) d z;
       }
 
-  pub block_whole : (lines stops : ℕ) → x ≡ Whole lines stops
-      → BlockJudged form b t used from to co mo st fo (Replace (record { used = used; from = from; to = to; lines = lines; stops = stops }))
+  pub block_whole : (lines stops : ℕ) → x ≡ size_of lines stops
+      → BlockJudged form b t used from to co mo st fo (Ok (record { used = used; from = from; to = to; lines = lines; stops = stops }))
   block_whole lines stops e =
       record {
         says = λ c f a seen new. rw e at (k.says c f (agree c a) seen new (suc (length (services_before t from))));
@@ -104,20 +102,20 @@ new_service form s b seen e n =
     sym (fresh_service form seen (as_block b) h.0 ∙ rw (h.1, n))
 
 -- THE TESTS IN TURN
-regroup : (x y v : Verdict) → or_else x (or_else y (or_else v Fine)) ≡ or_else (or_else x y) v
-regroup Fine Fine Fine = refl
-regroup Fine Fine (Fault r p) = refl
-regroup Fine (Fault r p) v = refl
-regroup (Fault r p) y v = refl
+regroup : (x y v : Verdict) → or_else x (or_else y (or_else v (Ok tt))) ≡ or_else (or_else x y) v
+regroup (Ok _) (Ok _) (Ok _) = refl
+regroup (Ok _) (Ok _) (Err fault) = refl
+regroup (Ok _) (Err fault) v = refl
+regroup (Err fault) y v = refl
 
 module _ (form : Form) (t : List ℕ) (s : ℕ) (b : List ℕ) (c : Context) (f : c.form ≡ form)
     (q : c.keys Timetbls ≡ keys_of Timetbls (rows_in Timetbls t)) where
-  says_not_one : is_one_block s (lines b) ≡ false → Fault NotOneBlock Nowhere ≡ edit_verdict c (rows_in Timetbls t) (length t) s b
+  says_not_one : is_one_block s (lines b) ≡ false → fault_at NotOneBlock None ≡ edit_verdict c (rows_in Timetbls t) (length t) s b
   unfolding edit_verdict first_fault
   says_not_one e = rw e
 
   module _ (one : is_one_block s (lines b) ≡ true) where
-    says_not_held : has s (keys_of Timetbls (rows_in Timetbls t)) ≡ false → Fault NoService Nowhere ≡ edit_verdict c (rows_in Timetbls t) (length t) s b
+    says_not_held : has s (keys_of Timetbls (rows_in Timetbls t)) ≡ false → fault_at NoService None ≡ edit_verdict c (rows_in Timetbls t) (length t) s b
     unfolding edit_verdict first_fault
     says_not_held e = rw (one, q, e)
 
@@ -127,7 +125,7 @@ module _ (form : Form) (t : List ℕ) (s : ℕ) (b : List ℕ) (c : Context) (f 
 
       -- sizes of some length and some lines, and then the block
       abbrev in_turn : ℕ → ℕ → Verdict → Verdict
-      in_turn n l v = or_else (length_verdict Timetbls n) (or_else (room_verdict Timetbls l (length t)) (or_else v Fine))
+      in_turn n l v = or_else (length_verdict Timetbls n) (or_else (room_verdict Timetbls l (length t)) (or_else v (Ok tt)))
 
       opened : edit_verdict c (rows_in Timetbls t) (length t) s b
           ≡ in_turn (edited_length c k (rows_in Timetbls t) b) (edited_lines k (rows_in Timetbls t) b)
@@ -162,28 +160,28 @@ module _ (form : Form) (t : List ℕ) (s : ℕ) (b : List ℕ) (c : Context) (f 
           (room_verdict Timetbls (from + length (lines b) + (used - to)) (length t)) _
 
 -- lines for which there is room
-room_fine : (l n : ℕ) → room_verdict Timetbls l n ≡ Fine → l ≤ n / width
+room_fine : (l n : ℕ) → room_verdict Timetbls l n ≡ Ok tt → l ≤ n / width
 room_fine l n e = go (leb l (n / width)) refl e
   where
-    go : (x : Bool) → leb l (n / width) ≡ x → fault_unless x NoRoom (At Timetbls 0 0) ≡ Fine → l ≤ n / width
+    go : (x : Bool) → leb l (n / width) ≡ x → fault_unless x NoRoom (at_place Timetbls 0 0) ≡ Ok tt → l ≤ n / width
     go true q e = leb-true l (n / width) q
     go false q e = absurd (false≢true (ap fine e))
 
 -- WAYS OUT
 module _ (form : Form) (t co mo st fo : List ℕ) (s : ℕ) (b : List ℕ) where
-  pub not_one : is_one_block s (lines b) ≡ false → AmendJudged form t co mo st fo s b (Refuse NotOneBlock Nowhere)
-  not_one e = record { says = λ c f q a. says_not_one form t s b c f q e; edit = λ d z. no_edit NotOneBlock Nowhere d z }
+  pub not_one : is_one_block s (lines b) ≡ false → AmendJudged form t co mo st fo s b (fault_at NotOneBlock None)
+  not_one e = record { says = λ c f q a. says_not_one form t s b c f q e; edit = λ d z. no_edit NotOneBlock None d z }
 
   module _ (one : is_one_block s (lines b) ≡ true) (j : Judgeable form t) (used : ℕ) (counted : used ≡ length (rows_in Timetbls t))
       (p : Part) (g : GroupAt Timetbls used t s p) where
     pub stored : Stored Timetbls used t
     stored = record { counted = counted; once = j.once }
 
-    pub no_service : p.from ≡ p.to → AmendJudged form t co mo st fo s b (Refuse NoService Nowhere)
+    pub no_service : p.from ≡ p.to → AmendJudged form t co mo st fo s b (fault_at NoService None)
     no_service e =
         record {
           says = λ c f q a. says_not_held form t s b c f q one (not_held s used t p stored g e);
-          edit = λ d z. no_edit NoService Nowhere d z;
+          edit = λ d z. no_edit NoService None d z;
         }
 
     module _ (n : p.from ≡ p.to → ⊥) where
@@ -208,7 +206,7 @@ module _ (form : Form) (t co mo st fo : List ℕ) (s : ℕ) (b : List ℕ) where
       there = held s used t p stored g some
 
       module _ (v : Verdict) (sized : v ≡ sizes_verdict form t used p.from p.to b) where
-        pub size_refused : (w : Reason) (at : Place) → v ≡ Fault w at → AmendJudged form t co mo st fo s b (Refuse w at)
+        pub size_refused : (w : Reason) (at : Option Place) → v ≡ fault_at w at → AmendJudged form t co mo st fo s b (fault_at w at)
         size_refused w at e =
             record {
               says = λ c f q a.
@@ -219,7 +217,7 @@ module _ (form : Form) (t co mo st fo : List ℕ) (s : ℕ) (b : List ℕ) where
             }
 
         -- the block has room
-        module _ (e : v ≡ Fine) (r : Judged) (h : BlockJudged form b t used p.from p.to co mo st fo r) where
+        module _ (e : v ≡ Ok tt) (r : Result Edit Fault) (h : BlockJudged form b t used p.from p.to co mo st fo r) where
           has_room : p.from + length (lines b) + (used - p.to) ≤ length t / width
           unfolding sizes_verdict
           has_room = room_fine _ _ (or_fine (length_verdict Timetbls (edited_bytes form t used p.from p.to (length b)))

@@ -6,7 +6,7 @@ ghost use Rattle.iff.specs.Tables.{rows_in};
 ghost use Rattle.iff.specs.declared.File.TheVariants.{Timetbls};
 ghost use Rattle.amend_tests.specs.Judged.{BlockJudged, Judgeable, AmendJudged};
 
-use iff::{File, Form, Place, Reason, Verdict};
+use iff::{File, Form, Reason};
 
 // Some rows of TIMETBLS that give way to a block: how many are in use, from which row on and before which, and the block's lines and stops.
 #[derive(Clone, Copy)]
@@ -16,12 +16,6 @@ pub struct Edit {
     pub to: usize,
     pub lines: u64,
     pub stops: u64,
-}
-
-#[derive(Clone, Copy)]
-pub enum Judged {
-    Refuse(Reason, Place),
-    Replace(Edit),
 }
 
 // "Then the block's lines", in the place of the rows from `from` on and before `to`.
@@ -37,7 +31,7 @@ fn judge_block(
     footnotes: &[u64],
     places: &[u32],
     block: &[u8],
-) -> Judged
+) -> Result<Edit, iff::Fault>
     requires { from ≤ length (rows_in Timetbls t.now) }
     ensures { BlockJudged form block.now t.now used from to
         companies.now modes.now stations.now footnotes.now result }
@@ -46,21 +40,29 @@ fn judge_block(
     match blocks::check_block(
         block, form, true, counts, companies, modes, stations, footnotes, places,
     ) {
-        blocks::Checked::Broken(why, line) => {
+        Err(fault) => {
             let ordinal = service_places::ordinal_at(t, from);
-            Judged::Refuse(why, Place::At(File::Timetbls, ordinal, line))
+            Err(iff::Fault {
+                reason: fault.reason,
+                place: Some(iff::Place {
+                    file: File::Timetbls,
+                    ordinal,
+                    line: fault.line,
+                }),
+            })
         }
-        blocks::Checked::Whole(lines, stops) => Judged::Replace(Edit {
+        Ok(size) => Ok(Edit {
             used: used,
             from: from,
             to: to,
-            lines: lines,
-            stops: stops,
+            lines: size.lines,
+            stops: size.stops,
         }),
     }
 }
 
-// 11, 12, 1 and 2 over TIMETBLS, and the block's lines. `places` is a hint where the keys of all tables stand.
+// 11, 12, 1 and 2 over TIMETBLS, and the block's lines. `places` is a hint where the keys of all tables stand. What gives way to the block, if
+// nothing is wrong.
 pub fn judge(
     form: Form,
     t: &[u64],
@@ -71,25 +73,29 @@ pub fn judge(
     places: &[u32],
     service: u64,
     block: &[u8],
-) -> Judged
+) -> Result<Edit, iff::Fault>
     requires { Judgeable form t.now }
     ensures { AmendJudged form t.now
         companies.now modes.now stations.now footnotes.now service block.now result }
 {
     if !service_lines::is_one_block(block, service) {
-        return Judged::Refuse(Reason::NotOneBlock, Place::Nowhere);
+        return Err(iff::Fault {
+            reason: Reason::NotOneBlock,
+            place: None,
+        });
     }
     let used = keys::used_rows(File::Timetbls, t);
     let part = store::find_group(File::Timetbls, t, used, places, service);
     let from = part.from;
     let to = part.to;
     if from == to {
-        return Judged::Refuse(Reason::NoService, Place::Nowhere);
+        return Err(iff::Fault {
+            reason: Reason::NoService,
+            place: None,
+        });
     }
-    match edit_sizes::test_sizes(form, t, used, from, to, block) {
-        Verdict::Fault(why, place) => Judged::Refuse(why, place),
-        Verdict::Fine => judge_block(
-            form, t, used, from, to, companies, modes, stations, footnotes, places, block,
-        ),
-    }
+    edit_sizes::test_sizes(form, t, used, from, to, block)?;
+    judge_block(
+        form, t, used, from, to, companies, modes, stations, footnotes, places, block,
+    )
 }

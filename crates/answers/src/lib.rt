@@ -17,8 +17,9 @@ pub fn wide(x: usize) -> u64
 pub fn answer_of(v: Verdict, days: usize, services: u64) -> Answer
     ensures { result ≡ answer_to v days services }
 {
-    match v {
-        Verdict::Fine => Answer::Accepted(wide(days), services),
-        Verdict::Fault(r, p) => Answer::Refused(r, p),
-    }
+    v?;
+    Ok(iff::Accepted {
+        days: wide(days),
+        services,
+    })
 }

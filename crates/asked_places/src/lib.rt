@@ -36,10 +36,8 @@ pub fn place_services(
     ensures { length places.new ≡ length places.old }
 {
     let mut missing = false;
-    let mut q = 0;
-    while q < asked {
+    for q in 0..asked {
         missing = ask_in_question(missing, questions, q, timetbls, used, places);
-        q += 1;
     }
     if missing {
         places::index_asked(timetbls, used, places);

@@ -25,6 +25,7 @@ fn seek_head(text: &[u8], from: usize) -> usize
 {
     let head = text::line_at(text, from);
     let mut at = head.next;
+    // A loop by hand: what is looked for is where a line begins, and a line alone does not tell that.
     while at < text.len() {
         let span = text::line_at(text, at);
         let end = span.end;
@@ -100,6 +101,7 @@ fn hop_over(text: &[u8], from: usize) -> BlockEnd
     }
     let mut lines: u64 = 1;
     let mut stops: u64 = 0;
+    // A loop by hand: how far a hop goes is known only from the letter that stands there, so no range says it.
     while at < text.len() {
         let letter = text[at];
         if letter == b'#' {

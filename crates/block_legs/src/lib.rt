@@ -56,14 +56,10 @@ fn are_in_range(block: &[u8], form: iff::Form, n: u64) -> bool
     requires { all (legible form) (lines block.now) ≡ true }
     ensures { result ≡ all (line_in_range form n) (lines block.now) }
 {
-    let mut at: usize = 0;
-    while at < block.len() {
-        let line = text::line_at(block, at);
-        let end = line.end;
-        if !line_in_range(&block[at..end], form, n) {
+    for line in text_lines::lines_of(block) {
+        if !line_in_range(line.body, form, n) {
             return false;
         }
-        at = line.next;
     }
     true
 }
@@ -86,14 +82,10 @@ fn mark_lines(block: &[u8], form: iff::Form, n: u64, kind: u64, marks: &mut [u8]
     requires { AllMarkable form block.now n kind (length marks.old) }
     ensures { Tally 1 n (lines_times form n kind (lines block.now)) marks.old marks.new result }
 {
-    let mut at: usize = 0;
-    while at < block.len() {
-        let line = text::line_at(block, at);
-        let end = line.end;
-        if !mark_line(&block[at..end], form, n, kind, marks) {
+    for line in text_lines::lines_of(block) {
+        if !mark_line(line.body, form, n, kind, marks) {
             return false;
         }
-        at = line.next;
     }
     true
 }

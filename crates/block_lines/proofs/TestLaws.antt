@@ -1,4 +1,5 @@
 -- Laws of one line's tests: in the order of the work; equal to the paper's `blockTest`; what a line that passes leaves. Assumes nothing.
+use Rattle.std.specs.Prelude.{Err, None, Ok, Option, Some}
 use Prim.Native.Nat.{ℕ, ◌+◌, ◌≤◌}
 use mathlib.Core.Path.{◌≡◌, refl, ap, sym, ◌∙◌}
 use mathlib.Core.List.{List, [], ◌∷◌}
@@ -8,7 +9,7 @@ use lib.Dec.{eqb, ltb}
 use borrow.Author.Tests.{ltb-true, eqb-true}
 use Rattle.iff.specs.Bytes.{hash, percent, dash, ampersand, asterisk, plus, dot, semicolon, less, greater, question}
 use Rattle.iff.specs.Lists.{has}
-use Rattle.iff.specs.Refusals.{first_test, or_test, unless}
+use Rattle.iff.specs.Refusals.{first_test, or_test, unless, Test}
 use Rattle.iff.specs.Lines.{Line, letter, is_hash}
 use Rattle.iff.specs.Columns.{fields_of, laid}
 use Rattle.iff.specs.Values.{readable}
@@ -21,12 +22,8 @@ use Rattle.iff.specs.declared.GroupFile.TheVariants.{Footnote}
 use Rattle.iff.specs.declared.File.TheVariants.{Rows, Groups, Timetbls}
 use Rattle.iff.specs.declared.Reason.{Reason}
 use Rattle.iff.specs.declared.Reason.TheVariants.{Layout, Value, Order, Duplicate, Reference}
-use Rattle.iff.specs.declared.Test.{Test}
-use Rattle.iff.specs.declared.Test.TheVariants.{Passes, Fails}
 use Rattle.iff.specs.declared.Stand.{Stand}
 use Rattle.iff.specs.declared.Stand.TheVariants.{Start, Hash, Percent, Dash, Ampersand, Asterisk, Stop, Between, Last, LastPlatform}
-use Rattle.iff.specs.declared.Next.{Next}
-use Rattle.iff.specs.declared.Next.TheVariants.{Goes, NotHere}
 use Rattle.iff.specs.declared.InBlock.{InBlock}
 use Rattle.iff_rules.specs.Order.{LineTests, line_test, known_in_block, goes, is_goes, stand_after, is_stop}
 use Rattle.iff_rules.specs.Rows.{row_of, Context}
@@ -95,13 +92,13 @@ is_start Between = false
 is_start Last = false
 is_start LastPlatform = false
 
-abbrev Leaves : Stand → Next → Type 0
+abbrev Leaves : Stand → Option Stand → Type 0
 Leaves s n = is_goes n ≡ true → is_start (stand_after s n) ≡ false
 
-not_here : (s : Stand) → Leaves s NotHere
+not_here : (s : Stand) → Leaves s None
 not_here s e = absurd (false≢true e)
 
-or_to : (s : Stand) (b : Bool) (q : Stand) (n : Next) → is_start q ≡ false → Leaves s n → Leaves s (cond b (Goes q) n)
+or_to : (s : Stand) (b : Bool) (q : Stand) (n : Option Stand) → is_start q ≡ false → Leaves s n → Leaves s (cond b (Some q) n)
 or_to s true q n h k e = h
 or_to s false q n h k e = k e
 
@@ -173,15 +170,15 @@ module _ (c k : Context) (same : SameKeys c k) (seen : List ℕ) (fresh : Bool) 
           not_here_test _ _ refl n n
 
 -- A LINE THAT PASSES
-or_passes : (b : Bool) (w : Reason) (t : Test) → or_test (unless b w) t ≡ Passes → (b ≡ true) × (t ≡ Passes)
+or_passes : (b : Bool) (w : Reason) (t : Test) → or_test (unless b w) t ≡ Ok tt → (b ≡ true) × (t ≡ Ok tt)
 or_passes true w t e = (refl, e)
 or_passes false w t e = absurd (let z : ◌≡◌ {A = ℕ} 0 1 = cc in omega arith)
 
-pair_passes : (s t : Test) → or_test s t ≡ Passes → (s ≡ Passes) × (t ≡ Passes)
-pair_passes Passes t e = (refl, e)
-pair_passes (Fails w) t e = absurd (let z : ◌≡◌ {A = ℕ} 0 1 = cc in omega arith)
+pair_passes : (s t : Test) → or_test s t ≡ Ok tt → (s ≡ Ok tt) × (t ≡ Ok tt)
+pair_passes (Ok _) t e = (refl, e)
+pair_passes (Err w) t e = absurd (let z : ◌≡◌ {A = ℕ} 0 1 = cc in omega arith)
 
-unless_passes : (b : Bool) (w : Reason) → unless b w ≡ Passes → b ≡ true
+unless_passes : (b : Bool) (w : Reason) → unless b w ≡ Ok tt → b ≡ true
 unless_passes true w e = refl
 unless_passes false w e = absurd (let z : ◌≡◌ {A = ℕ} 0 1 = cc in omega arith)
 
@@ -208,7 +205,7 @@ pub record LedOn (form : Form) (st : InBlock) (l : Line) (to : InBlock) : Type 0
   pub few : st.stops ≤ most_stops → to.stops ≤ most_stops
   pub read : legible form l ≡ true
 
-pub passed : (c : Context) (fresh : Bool) (st : InBlock) (l : Line) → block_test_with c fresh st l ≡ Passes → LedOn c.form st l (block_next st l)
+pub passed : (c : Context) (fresh : Bool) (st : InBlock) (l : Line) → block_test_with c fresh st l ≡ Ok tt → LedOn c.form st l (block_next st l)
 unfolding block_moves
 passed c fresh st l e =
     let fields = fields_of c.form Timetbls (letter l) in

@@ -1,7 +1,7 @@
 -- One line of a block, as its reader tests it: whether the service is new is told, and the other files are lent tables.
-use Rattle.std.specs.Prelude.{ℕ, List, [], Bool, true, ◌&&◌, cond}
+use Rattle.std.specs.Prelude.{ℕ, List, [], Bool, true, ◌&&◌, cond, Err, Ok, Result}
 use Rattle.iff.specs.Files.{of, eleven}
-use Rattle.iff.specs.Refusals.{or_test, unless}
+use Rattle.iff.specs.Refusals.{or_test, unless, Test}
 use Rattle.iff.specs.Lines.{Line, letter, is_hash}
 use Rattle.iff.specs.Columns.{fields_of, laid}
 use Rattle.iff.specs.Values.{readable}
@@ -11,8 +11,6 @@ use Rattle.iff.specs.declared.GroupFile.TheVariants.{Footnote}
 use Rattle.iff.specs.declared.File.TheVariants.{Rows, Groups, Timetbls}
 use Rattle.iff.specs.declared.Form.{Form}
 use Rattle.iff.specs.declared.Reason.TheVariants.{Value, Duplicate, Reference}
-use Rattle.iff.specs.declared.Test.{Test}
-use Rattle.iff.specs.declared.Test.TheVariants.{Passes, Fails}
 use Rattle.iff.specs.declared.InBlock.{InBlock}
 use Rattle.iff_rules.specs.Order.{line_test, known_in_block, goes, is_goes}
 use Rattle.iff_rules.specs.Rows.{row_of, Context}
@@ -22,8 +20,7 @@ use Rattle.iff_rules.specs.Load.{block_next}
 use Rattle.records.specs.Layouts.{layout_test}
 use Rattle.keys.specs.Lookup.{keys_among}
 use Rattle.references.specs.declared.BlockCounts.{BlockCounts}
-use Rattle.block_lines.specs.declared.LineStep.{LineStep}
-use Rattle.block_lines.specs.declared.LineStep.TheVariants.{Leads, Refused}
+use Rattle.iff.specs.declared.Reason.{Reason}
 
 -- a form, and the keys of the four tables that a block's lines name, among so many of their first rows, and nothing else
 unfoldable pub keys_from : Form → BlockCounts → List ℕ → List ℕ → List ℕ → List ℕ → Context
@@ -64,9 +61,9 @@ record_test c fresh stops l =
     or_test (layout_test l (fields_of c.form Timetbls (letter l))) (row_test c fresh stops (row_of c.form Timetbls l))
 
 -- where a line leads
-abbrev pub step_of : Test → InBlock → LineStep
-step_of Passes st = Leads st
-step_of (Fails w) st = Refused w
+abbrev pub step_of : Test → InBlock → Result InBlock Reason
+step_of (Ok _) st = Ok st
+step_of (Err w) st = Err w
 
-unfoldable pub block_step : Context → Bool → InBlock → Line → LineStep
+unfoldable pub block_step : Context → Bool → InBlock → Line → Result InBlock Reason
 block_step c fresh st l = step_of (block_test_with c fresh st l) (block_next st l)

@@ -11,13 +11,6 @@ ghost use Rattle.iff.specs.declared.Form.{Form};
 ghost use Rattle.iff.specs.declared.File.TheVariants.{Timetbls};
 ghost use Rattle.block_lines.specs.Lines.{keys_from, row_test, record_test, block_step};
 
-// What one line leads to.
-#[derive(Clone, Copy)]
-pub enum LineStep {
-    Leads(iff::InBlock),
-    Refused(iff::Reason),
-}
-
 // A `#` must name a new service; no other record names one.
 fn is_new(tag: u64, fresh: bool) -> bool
     ensures { result ≡ cond (eqb tag hash) fresh true }
@@ -46,15 +39,15 @@ fn row_test(
         fresh stops row.now }
 {
     if !meanings::block_means(stops as usize, row) {
-        return iff::Test::Fails(iff::Reason::Value);
+        return Err(iff::Reason::Value);
     }
     if !is_new(row[iff::words::TAG], fresh) {
-        return iff::Test::Fails(iff::Reason::Duplicate);
+        return Err(iff::Reason::Duplicate);
     }
     if !block_references::met_in_block(row, counts, companies, modes, stations, footnotes, places) {
-        return iff::Test::Fails(iff::Reason::Reference);
+        return Err(iff::Reason::Reference);
     }
-    iff::Test::Passes
+    Ok(())
 }
 
 // What a line says that may stand where it stands: its columns first, and then its row.
@@ -79,14 +72,10 @@ fn record_test(
 {
     let kind = records::block_record(letter);
     let mut row = [0u64; tables::BLOCK_WIDTH];
-    match record_lines::read_line(kind, letter as u64, form, line, ended, &mut row) {
-        iff::Test::Fails(why) => iff::Test::Fails(why),
-        iff::Test::Passes => {
-            row_test(
-                &row, stops, fresh, counts, companies, modes, stations, footnotes, places,
-            )
-        }
-    }
+    record_lines::read_line(kind, letter as u64, form, line, ended, &mut row)?;
+    row_test(
+        &row, stops, fresh, counts, companies, modes, stations, footnotes, places,
+    )
 }
 
 // Where a block stands after a record that was let through.
@@ -106,7 +95,7 @@ fn after_record(to: iff::Stand, stops: u64, letter: u8) -> iff::InBlock
     }
 }
 
-// One line after `st`, CR LF not counted.
+// One line after `st`, CR LF not counted: what it leads to.
 pub fn block_line(
     line: &[u8],
     ended: bool,
@@ -119,7 +108,7 @@ pub fn block_line(
     stations: &[u64],
     footnotes: &[u64],
     places: &[u32],
-) -> LineStep
+) -> Result<iff::InBlock, iff::Reason>
     requires { st.stops ≤ most_stops }
     ensures { result ≡ block_step
         (keys_from form counts companies.now modes.now stations.now footnotes.now)
@@ -127,18 +116,18 @@ pub fn block_line(
 {
     let letter = text::first_byte(line);
     if !first_bytes::is_known_in_block(letter) {
-        return LineStep::Refused(iff::Reason::Layout);
+        return Err(iff::Reason::Layout);
     }
     let stand = st.stand;
     let stops = st.stops;
     match order::goes(stand, letter) {
-        iff::Next::NotHere => LineStep::Refused(iff::Reason::Order),
-        iff::Next::Goes(to) => match record_test(
-            letter, line, ended, form, stops, fresh, counts, companies, modes, stations, footnotes,
-            places,
-        ) {
-            iff::Test::Fails(why) => LineStep::Refused(why),
-            iff::Test::Passes => LineStep::Leads(after_record(to, stops, letter)),
+        None => Err(iff::Reason::Order),
+        Some(to) => {
+            record_test(
+                letter, line, ended, form, stops, fresh, counts, companies, modes, stations,
+                footnotes, places,
+            )?;
+            Ok(after_record(to, stops, letter))
         },
     }
 }

@@ -1,4 +1,5 @@
 -- Laws of one block: its test after those before it, and its rows behind theirs. Assumes nothing.
+use Rattle.std.specs.Prelude.{Err, Ok, Option, Result}
 use Prim.Native.Nat.{ℕ, ◌+◌, ◌-◌, ◌*◌, ◌≤◌}
 use mathlib.Core.Path.{◌≡◌, refl, ap, sym, ◌∙◌}
 use mathlib.Core.List.{List, [], ◌∷◌, ◌++◌, append_assoc}
@@ -24,21 +25,21 @@ use Rattle.marks.proofs.MarkLaws.{marked_next}
 use Rattle.keys.proofs.Fills.{keys_append}
 use Rattle.keys.proofs.Among.{keys_counted}
 use Rattle.legs.proofs.RowLaws.{block_lines_lem}
-use Rattle.blocks.specs.declared.Checked.{Checked}
-use Rattle.blocks.specs.declared.Checked.TheVariants.{Whole, Broken}
 use Rattle.references.specs.declared.BlockCounts.{BlockCounts}
 use Rattle.blocks.specs.Whole.{WholeBlock, BlockChecked}
 use Rattle.blocks.proofs.WholeLaws.{fresh_service}
 use Rattle.block_rows.specs.Written.{Placeable}
-use Rattle.quick_blocks.specs.declared.Quickly.{Quickly}
-use Rattle.quick_blocks.specs.declared.Quickly.TheVariants.{Put}
-use Rattle.quick_blocks.specs.Whole.{QuickPut}
+use Rattle.quick_blocks.specs.Whole.{QuickPut, put_size}
 use Rattle.block_rows.proofs.RowLaws.{rows_used, rows_count, block_keys_lem}
 use Rattle.new_services.specs.declared.Newness.{Newness}
 use Rattle.new_services.specs.News.{Remembered}
-use Rattle.block_puts.specs.declared.BlockPut.TheVariants.{Kept, Faulty}
-use Rattle.block_puts.specs.Puts.{BlockTested, BlockPlaced, BlockJudged, Triable, BlockTried, Addable, BlockAdded}
+use Rattle.block_puts.specs.Puts.{BlockTested, BlockPlaced, BlockJudged, Triable, BlockTried, Addable, BlockAdded, put_of}
 use Rattle.block_puts.proofs.AgainLaws.{whole_says, whole_fresh, same_services}
+use Rattle.blocks.specs.Drive.{held_at, size_of}
+use Rattle.blocks.proofs.SizeLaws.{same_lines}
+use Rattle.block_puts.proofs.PutLaws.{same_run, same_row, same_told}
+use Rattle.blocks.specs.declared.BlockSize.{BlockSize}
+use Rattle.blocks.specs.declared.LineFault.{LineFault}
 
 abbrev width : ℕ
 width = row_width Timetbls
@@ -46,8 +47,8 @@ width = row_width Timetbls
 -- A BLOCK WHOSE ROWS ARE PUT
 module _ (form : Form) (b : List ℕ) (fresh : Bool) (counts : BlockCounts) (co mo st fo was is : List ℕ) (row : ℕ) where
   -- it was checked first
-  module _ (x : Checked) (y : BlockChecked form b fresh counts co mo st fo x) where
-    pub placed_broken : is ≡ was → (w : Reason) (j : ℕ) → x ≡ Broken w j → BlockPlaced form b fresh counts co mo st fo was is row (Broken w j)
+  module _ (x : Result BlockSize LineFault) (y : BlockChecked form b fresh counts co mo st fo x) where
+    pub placed_broken : is ≡ was → (w : Reason) (j : ℕ) → x ≡ held_at w j → BlockPlaced form b fresh counts co mo st fo was is row (held_at w j)
     placed_broken m w j e =
         record {
           checked = rw e at y;
@@ -55,34 +56,34 @@ module _ (form : Form) (b : List ℕ) (fresh : Bool) (counts : BlockCounts) (co 
           kept = λ w' j' q. record { front = ap (take (row * width)) m; behind = ap (drop ((row + lines_in (as_block b)) * width)) m };
         }
 
-    pub can_be_placed : (row + lines_in (as_block b)) * row_width Timetbls ≤ length was → (k n : ℕ) → x ≡ Whole k n → Placeable form b was k n row
+    pub can_be_placed : (row + lines_in (as_block b)) * row_width Timetbls ≤ length was → (k n : ℕ) → x ≡ size_of k n → Placeable form b was k n row
     can_be_placed h k n e = let z = y.whole k n e in record { whole = z; room = rw z.counted h }
 
-    pub placed_whole : (k n : ℕ) → x ≡ Whole k n
+    pub placed_whole : (k n : ℕ) → x ≡ size_of k n
         → is ≡ take (row * row_width Timetbls) was ++ (joined (block_rows form (as_block b)) ++ drop ((row + k) * row_width Timetbls) was)
-        → BlockPlaced form b fresh counts co mo st fo was is row (Whole k n)
+        → BlockPlaced form b fresh counts co mo st fo was is row (size_of k n)
     placed_whole k n e r =
         record {
           checked = rw e at y;
-          rows = λ k' n' q. let g : k ≡ k' = cc in rw g at r;
+          rows = λ k' n' q. rw (same_lines q) at r;
           kept = λ w j q. absurd (let z : ◌≡◌ {A = ℕ} 0 1 = cc in omega arith);
         }
 
   -- it was read in one pass
-  pub placed_quickly : (x : Quickly) → QuickPut form b fresh counts co mo st fo was is row x → (k n : ℕ) → x ≡ Put k n
-      → BlockPlaced form b fresh counts co mo st fo was is row (Whole k n)
+  pub placed_quickly : (x : Option BlockSize) → QuickPut form b fresh counts co mo st fo was is row x → (k n : ℕ) → x ≡ put_size k n
+      → BlockPlaced form b fresh counts co mo st fo was is row (size_of k n)
   placed_quickly x y k n e =
       let z = y.done k n e in
       record {
         checked = z.checked;
-        rows = λ k' n' q. let g : k ≡ k' = cc in rw g at z.rows;
+        rows = λ k' n' q. rw (same_lines q) at z.rows;
         kept = λ w j q. absurd (let z : ◌≡◌ {A = ℕ} 0 1 = cc in omega arith);
       }
 
 -- or that was begun, and it was checked then: what rows of it had been put are overwritten
 pub placed_after : (form : Form) (b : List ℕ) (fresh : Bool) (counts : BlockCounts) (co mo st fo was mid is : List ℕ) (row : ℕ)
-    (x : Quickly) → QuickPut form b fresh counts co mo st fo was mid row x
-    → (r : Checked) → BlockPlaced form b fresh counts co mo st fo mid is row r → BlockPlaced form b fresh counts co mo st fo was is row r
+    (x : Option BlockSize) → QuickPut form b fresh counts co mo st fo was mid row x
+    → (r : Result BlockSize LineFault) → BlockPlaced form b fresh counts co mo st fo mid is row r → BlockPlaced form b fresh counts co mo st fo was is row r
 placed_after form b fresh counts co mo st fo was mid is row x y r z =
     record {
       checked = z.checked;
@@ -93,19 +94,19 @@ placed_after form b fresh counts co mo st fo was mid is row x y r z =
     }
 
 -- A BLOCK THAT IS TRIED after those of the table: where it is at fault, whether its service is new has to be known
-tested : (form : Form) (b t : List ℕ) (counts : BlockCounts) (co mo st fo : List ℕ) (fresh : Bool) (r : Checked) → is_hash (as_block b).top ≡ true
-    → ((w : Reason) (j : ℕ) → r ≡ Broken w j → fresh ≡ not (has (service_of form (as_block b)) (keys_in Timetbls t)))
+tested : (form : Form) (b t : List ℕ) (counts : BlockCounts) (co mo st fo : List ℕ) (fresh : Bool) (r : Result BlockSize LineFault) → is_hash (as_block b).top ≡ true
+    → ((w : Reason) (j : ℕ) → r ≡ held_at w j → fresh ≡ not (has (service_of form (as_block b)) (keys_in Timetbls t)))
     → BlockChecked form b fresh counts co mo st fo r → BlockTested form b t counts co mo st fo r
-tested form b t counts co mo st fo fresh (Whole k n) h f y =
-    record { says = λ c d a o. whole_says form b fresh counts co mo st fo k n h y c d a (keys_in Timetbls t) o; whole = y.whole }
-tested form b t counts co mo st fo fresh (Broken w j) h f y =
+tested form b t counts co mo st fo fresh (Ok size) h f y =
+    record { says = λ c d a o. whole_says form b fresh counts co mo st fo size.lines size.stops h y c d a (keys_in Timetbls t) o; whole = y.whole }
+tested form b t counts co mo st fo fresh (Err fault) h f y =
     record {
       says =
-          λ c d a o. y.says c d a (keys_in Timetbls t) (f w j refl ∙ sym (fresh_service form (keys_in Timetbls t) (as_block b) h)) o;
+          λ c d a o. y.says c d a (keys_in Timetbls t) (f fault.reason fault.line refl ∙ sym (fresh_service form (keys_in Timetbls t) (as_block b) h)) o;
       whole = y.whole;
     }
 
-pub judged : (form : Form) (b : List ℕ) (counts : BlockCounts) (co mo st fo was is : List ℕ) (row : ℕ) (r : Checked) (service : ℕ) (came : Bool)
+pub judged : (form : Form) (b : List ℕ) (counts : BlockCounts) (co mo st fo was is : List ℕ) (row : ℕ) (r : Result BlockSize LineFault) (service : ℕ) (came : Bool)
     → service ≡ service_of form (as_block b) → came ≡ has service (keys_among Timetbls row was)
     → BlockPlaced form b (not came) counts co mo st fo was is row r → BlockJudged form b counts co mo st fo was is row r
 judged form b counts co mo st fo was is row r service came s e y =
@@ -116,11 +117,11 @@ not_came false e = refl
 not_came true e = e
 
 module _ (form : Form) (b was : List ℕ) (counts : BlockCounts) (co mo st fo : List ℕ) (row : ℕ) (new : Newness) (p : Triable form b was new row)
-    (is : List ℕ) (x : Checked) (y : BlockPlaced form b new.fresh counts co mo st fo was is row x) where
+    (is : List ℕ) (x : Result BlockSize LineFault) (y : BlockPlaced form b new.fresh counts co mo st fo was is row x) where
   abbrev service : ℕ
   service = service_of form (as_block b)
 
-  tried : ((w : Reason) (j : ℕ) → x ≡ Broken w j → new.told ≡ true) → BlockTried form b was is counts co mo st fo row new x
+  tried : ((w : Reason) (j : ℕ) → x ≡ held_at w j → new.told ≡ true) → BlockTried form b was is counts co mo st fo row new x
   tried f =
       record {
         tested = tested form b was counts co mo st fo new.fresh x p.one.opens (λ w j e. p.exact (f w j e)) y.checked;
@@ -131,15 +132,15 @@ module _ (form : Form) (b was : List ℕ) (counts : BlockCounts) (co mo st fo : 
             (sym (whole_fresh form b new.fresh counts co mo st fo k n p.one.opens (rw e at y.checked)) ∙ p.exact t);
       }
 
-  pub tried_whole : (k n : ℕ) → x ≡ Whole k n → BlockTried form b was is counts co mo st fo row new (Whole k n)
+  pub tried_whole : (k n : ℕ) → x ≡ size_of k n → BlockTried form b was is counts co mo st fo row new (size_of k n)
   tried_whole k n e = rw e at (tried (λ w j q. absurd (let z : ◌≡◌ {A = ℕ} 0 1 = cc in omega arith)))
 
-  pub tried_broken : (w : Reason) (j : ℕ) → x ≡ Broken w j → new.told ≡ true → BlockTried form b was is counts co mo st fo row new (Broken w j)
+  pub tried_broken : (w : Reason) (j : ℕ) → x ≡ held_at w j → new.told ≡ true → BlockTried form b was is counts co mo st fo row new (held_at w j)
   tried_broken w j e t = rw e at (tried (λ w' j' q. t))
 
   -- at fault, and tried again with its service looked for
-  pub tried_again : (w : Reason) (j : ℕ) → x ≡ Broken w j → new.told ≡ false → length is ≡ length was
-      → (last : List ℕ) (r : Checked) → BlockJudged form b counts co mo st fo is last row r
+  pub tried_again : (w : Reason) (j : ℕ) → x ≡ held_at w j → new.told ≡ false → length is ≡ length was
+      → (last : List ℕ) (r : Result BlockSize LineFault) → BlockJudged form b counts co mo st fo is last row r
       → BlockTried form b was last counts co mo st fo row new r
   tried_again w j e t m last r z =
       let s = y.kept w j e in
@@ -175,10 +176,10 @@ fill_more n rs qs u =
     (rw (joined_append, length-append, append_assoc))
 
 -- THE BLOCK IS REFUSED, or kept
-module _ (form : Form) (b was is : List ℕ) (counts : BlockCounts) (co mo st fo : List ℕ) (row : ℕ) (new : Newness) (x : Checked)
+module _ (form : Form) (b was is : List ℕ) (counts : BlockCounts) (co mo st fo : List ℕ) (row : ℕ) (new : Newness) (x : Result BlockSize LineFault)
     (y : BlockTried form b was is counts co mo st fo row new x) (search : Bool) where
-  pub added_faulty : (w : Reason) (j : ℕ) → x ≡ Broken w j → (marks : List ℕ)
-      → BlockAdded form b was is marks counts co mo st fo row search (Faulty w j)
+  pub added_faulty : (w : Reason) (j : ℕ) → x ≡ held_at w j → (marks : List ℕ)
+      → BlockAdded form b was is marks counts co mo st fo row search (held_at w j)
   added_faulty w j e marks =
       record {
         says = λ c d a o. rw e at (y.tested.says c d a o);
@@ -187,7 +188,7 @@ module _ (form : Form) (b was is : List ℕ) (counts : BlockCounts) (co mo st fo
         kept = λ w' j' q. y.kept w j e;
       }
 
-  module _ (marks : List ℕ) (run : KeyRun) (a : Addable b was marks run row) (k n : ℕ) (e : x ≡ Whole k n) where
+  module _ (marks : List ℕ) (run : KeyRun) (a : Addable b was marks run row) (k n : ℕ) (e : x ≡ size_of k n) where
     whole : WholeBlock form b k n
     whole = y.tested.whole k n e
 
@@ -238,14 +239,14 @@ module _ (form : Form) (b was is : List ℕ) (counts : BlockCounts) (co mo st fo
 
     pub added_kept : length is ≡ length was → (next : KeyRun) (to : ℕ) (told : Bool) (more : List ℕ) → Remembered run marks its_service more next
         → to ≡ row + k → told ≡ new.told → (search ≡ true → new.told ≡ true)
-        → BlockAdded form b was is more counts co mo st fo row search (Kept next to told)
+        → BlockAdded form b was is more counts co mo st fo row search (put_of next to told)
     added_kept m next to told more p q u v =
         record {
           says = λ c d g o. rw e at (y.tested.says c d g o);
           grown =
-              λ run' row' told' z. let f : next ≡ run' = cc in
-              let h : to ≡ row' = cc in
-              let i : told ≡ told' = cc in
+              λ run' row' told' z. let f : next ≡ run' = same_run z in
+              let h : to ≡ row' = same_row z in
+              let i : told ≡ told' = same_told z in
               record {
                 holding =
                     record {
@@ -261,6 +262,6 @@ module _ (form : Form) (b was is : List ℕ) (counts : BlockCounts) (co mo st fo
                 seen = now_keys;
                 fresh = λ t. y.fresh k n e (sym u ∙ i ∙ t);
               };
-          asked = λ run' row' told' z t. let i : told ≡ told' = cc in sym i ∙ u ∙ v t;
+          asked = λ run' row' told' z t. sym (same_told z) ∙ u ∙ v t;
           kept = λ w j z. absurd (let i : ◌≡◌ {A = ℕ} 0 1 = cc in omega arith);
         }

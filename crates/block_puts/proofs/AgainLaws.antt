@@ -1,4 +1,5 @@
 -- Laws of a block whose service came before, and of the first rows of a table. Assumes nothing.
+use Rattle.std.specs.Prelude.{Err, Ok}
 use Prim.Native.Nat.{ℕ, zero, suc, ◌+◌, ◌*◌, ◌≤◌}
 use mathlib.Core.Path.{◌≡◌, refl, ap, sym, ◌∙◌}
 use mathlib.Core.List.{List, [], ◌∷◌, ◌++◌}
@@ -9,16 +10,13 @@ use borrow.Author.Tests.{eq-eqb}
 use lib.ListN.{length, take, drop, length-drop, take-append-drop}
 use lib.Seq.{length-take-le, take-append-le, drop-append-le}
 use Rattle.iff.specs.Lists.{Group, any, has}
-use Rattle.iff.specs.Refusals.{passing, fine, first_test, first_fault, verdict_at, scan}
+use Rattle.iff.specs.Refusals.{passing, fine, first_test, first_fault, verdict_at, scan, at_place, fault_at}
 use Rattle.iff.specs.Lines.{Line, is_hash}
 use Rattle.iff.specs.Tables.{Row, row_width, row_at, keys_of}
 use Rattle.iff.specs.declared.Form.{Form}
 use Rattle.iff.specs.declared.InBlock.{InBlock}
 use Rattle.iff.specs.declared.File.TheVariants.{Timetbls}
 use Rattle.iff.specs.declared.Reason.TheVariants.{Duplicate}
-use Rattle.iff.specs.declared.Place.TheVariants.{At}
-use Rattle.iff.specs.declared.Test.TheVariants.{Passes, Fails}
-use Rattle.iff.specs.declared.Verdict.TheVariants.{Fine, Fault}
 use Rattle.iff_rules.specs.Order.{line_test}
 use Rattle.iff_rules.specs.Rows.{row_of, as_block, Context}
 use Rattle.iff_rules.specs.Unique.{fresh_key}
@@ -30,17 +28,17 @@ use Rattle.keys.specs.Lookup.{keys_among}
 use Rattle.keys.proofs.Among.{keys_there}
 use Rattle.references.specs.declared.BlockCounts.{BlockCounts}
 use Rattle.references.specs.Agree.{BlockKeysAmong}
-use Rattle.blocks.specs.declared.Checked.TheVariants.{Whole}
 use Rattle.block_lines.specs.Lines.{keys_from}
 use Rattle.blocks.specs.Whole.{BlockChecked}
 use Rattle.blocks.proofs.WholeLaws.{fresh_service}
 use Rattle.block_puts.specs.Puts.{new_verdict}
+use Rattle.blocks.specs.Drive.{size_of}
 
 -- ONE LINE, which was told to be right: where its key came before, that alone is wrong with it
 again_tests : (known here laid_out as_first valued fresh later met : Bool) → later ≡ false
-    → line_test (record { known = known; here = here; laid_out = laid_out; as_first = as_first; valued = valued; fresh = fresh; met = met }) ≡ Passes
+    → line_test (record { known = known; here = here; laid_out = laid_out; as_first = as_first; valued = valued; fresh = fresh; met = met }) ≡ Ok tt
     → line_test (record { known = known; here = here; laid_out = laid_out; as_first = as_first; valued = valued; fresh = later; met = met })
-    ≡ Fails Duplicate
+    ≡ Err Duplicate
 unfolding line_test first_test
 again_tests true true true true true f l m z e = rw z
 again_tests false b c d v f l m z e = absurd (false≢true (ap passing e))
@@ -49,22 +47,22 @@ again_tests true true false d v f l m z e = absurd (false≢true (ap passing e))
 again_tests true true true false v f l m z e = absurd (false≢true (ap passing e))
 again_tests true true true true false f l m z e = absurd (false≢true (ap passing e))
 
-again_line : (c : Context) (seen later : List ℕ) (st : InBlock) (l : Line) → block_test c seen st l ≡ Passes
-    → fresh_key Timetbls later (row_of c.form Timetbls l) ≡ false → block_test c later st l ≡ Fails Duplicate
+again_line : (c : Context) (seen later : List ℕ) (st : InBlock) (l : Line) → block_test c seen st l ≡ Ok tt
+    → fresh_key Timetbls later (row_of c.form Timetbls l) ≡ false → block_test c later st l ≡ Err Duplicate
 unfolding block_test
 again_line c seen later st l e f = again_tests _ _ _ _ _ _ _ _ f e
 
 -- ONE BLOCK: its first line passes where it is right
-head_passes : (c : Context) (seen : List ℕ) (o : ℕ) (g : Group Line) → block_verdict c seen o g ≡ Fine → block_test c seen block_start g.top ≡ Passes
+head_passes : (c : Context) (seen : List ℕ) (o : ℕ) (g : Group Line) → block_verdict c seen o g ≡ Ok tt → block_test c seen block_start g.top ≡ Ok tt
 unfolding block_verdict scan
 head_passes c seen o g e =
-    let rest = scan (λ st j l. verdict_at (At Timetbls o j) (block_test c seen st l)) block_next (block_next block_start g.top) 2 g.rest in
-    verdict_fine (At Timetbls o 1) (block_test c seen block_start g.top)
-    (or_fine (verdict_at (At Timetbls o 1) (block_test c seen block_start g.top)) rest (cons_fine _ _ e).0).0
+    let rest = scan (λ st j l. verdict_at (at_place Timetbls o j) (block_test c seen st l)) block_next (block_next block_start g.top) 2 g.rest in
+    verdict_fine (at_place Timetbls o 1) (block_test c seen block_start g.top)
+    (or_fine (verdict_at (at_place Timetbls o 1) (block_test c seen block_start g.top)) rest (cons_fine _ _ e).0).0
 
 -- where its service came before, that is its fault
-block_again : (c : Context) (seen later : List ℕ) (o : ℕ) (g : Group Line) → block_verdict c seen o g ≡ Fine
-    → fresh_key Timetbls later (row_of c.form Timetbls g.top) ≡ false → block_verdict c later o g ≡ Fault Duplicate (At Timetbls o 1)
+block_again : (c : Context) (seen later : List ℕ) (o : ℕ) (g : Group Line) → block_verdict c seen o g ≡ Ok tt
+    → fresh_key Timetbls later (row_of c.form Timetbls g.top) ≡ false → block_verdict c later o g ≡ fault_at Duplicate (at_place Timetbls o 1)
 unfolding block_verdict first_fault scan
 block_again c seen later o g e f = rw (again_line c seen later block_start g.top (head_passes c seen o g e) f)
 
@@ -79,7 +77,7 @@ own_form form counts co mo st fo = refl
 
 -- A BLOCK THAT IS WHOLE, as it was checked
 module _ (form : Form) (b : List ℕ) (fresh : Bool) (counts : BlockCounts) (co mo st fo : List ℕ) (k n : ℕ)
-    (h : is_hash (as_block b).top ≡ true) (y : BlockChecked form b fresh counts co mo st fo (Whole k n)) where
+    (h : is_hash (as_block b).top ≡ true) (y : BlockChecked form b fresh counts co mo st fo (size_of k n)) where
   abbrev service : ℕ
   service = service_of form (as_block b)
 
@@ -96,7 +94,7 @@ module _ (form : Form) (b : List ℕ) (fresh : Bool) (counts : BlockCounts) (co 
 
   module _ (c : Context) (d : c.form ≡ form) (a : BlockKeysAmong c counts co mo st fo) where
     again_to : (seen later : List ℕ) (o : ℕ) → fresh ≡ fresh_key Timetbls seen (row_of form Timetbls (as_block b).top) → has service later ≡ true
-        → block_verdict c later o (as_block b) ≡ Fault Duplicate (At Timetbls o 1)
+        → block_verdict c later o (as_block b) ≡ fault_at Duplicate (at_place Timetbls o 1)
     again_to seen later o f e =
         block_again c seen later o (as_block b) (sym (y.says c d a seen f o))
         (ap (λ x. fresh_key Timetbls later (row_of x Timetbls (as_block b).top)) d ∙ new_to later true e)

@@ -9,12 +9,13 @@ ghost use Rattle.block_puts.specs.Puts.{BlockPlaced, BlockJudged, Triable, Block
 
 use new_services::{Newness, after_block, tell_new};
 
-// What became of a block: what is remembered of the services with it, where the next block's rows go, and whether its service was told to be new; or
-// why it is refused, and at which line.
+// What became of a block that was put: what is remembered of the services with it, where the next block's rows go, and whether its service was told
+// to be new.
 #[derive(Clone, Copy)]
-pub enum BlockPut {
-    Kept(fresh_keys::KeyRun, usize, bool),
-    Faulty(iff::Reason, u64),
+pub struct BlockPut {
+    pub run: fresh_keys::KeyRun,
+    pub row: usize,
+    pub told: bool,
 }
 
 // A block that the quick reader left, checked, and then written in the place of what that reader put there.
@@ -30,20 +31,16 @@ fn check_then_write(
     stations: &[u64],
     footnotes: &[u64],
     places: &[u32],
-) -> blocks::Checked
+) -> Result<blocks::BlockSize, blocks::LineFault>
     requires { (row + lines_in (as_block block.now)) * row_width Timetbls ≤ length t.old }
     ensures { BlockPlaced form block.now fresh counts
         companies.now modes.now stations.now footnotes.now t.old t.new row result }
 {
-    match blocks::check_block(
+    let size = blocks::check_block(
         block, form, fresh, counts, companies, modes, stations, footnotes, places,
-    ) {
-        blocks::Checked::Broken(why, line) => blocks::Checked::Broken(why, line),
-        blocks::Checked::Whole(k, n) => {
-            block_rows::write_block(block, form, k, n, t, row);
-            blocks::Checked::Whole(k, n)
-        }
-    }
+    )?;
+    block_rows::write_block(block, form, size.lines, size.stops, t, row);
+    Ok(size)
 }
 
 // A block, of so many lines and stops as it is thought, with its rows behind the first `row` rows, if it is whole: at one look if it is told to
@@ -62,7 +59,7 @@ fn place_block(
     places: &[u32],
     lines: u64,
     stops: u64,
-) -> blocks::Checked
+) -> Result<blocks::BlockSize, blocks::LineFault>
     requires { (0 < length block.now) × ((row + lines_in (as_block block.now)) * row_width Timetbls ≤ length t.old) }
     ensures { BlockPlaced form block.now fresh counts
         companies.now modes.now stations.now footnotes.now t.old t.new row result }
@@ -71,8 +68,8 @@ fn place_block(
         block, form, fresh, t, row, counts, companies, modes, stations, footnotes, places, lines,
         stops,
     ) {
-        quick_blocks::Quickly::Put(k, n) => blocks::Checked::Whole(k, n),
-        quick_blocks::Quickly::Left => check_then_write(
+        Some(size) => Ok(size),
+        None => check_then_write(
             block, form, fresh, t, row, counts, companies, modes, stations, footnotes, places,
         ),
     }
@@ -90,7 +87,7 @@ fn judge_again(
     stations: &[u64],
     footnotes: &[u64],
     places: &[u32],
-) -> blocks::Checked
+) -> Result<blocks::BlockSize, blocks::LineFault>
     requires { (row + lines_in (as_block block.now)) * row_width Timetbls ≤ length t.old }
     ensures { BlockJudged form block.now counts
         companies.now modes.now stations.now footnotes.now t.old t.new row result }
@@ -117,7 +114,7 @@ fn try_block(
     places: &[u32],
     lines: u64,
     stops: u64,
-) -> blocks::Checked
+) -> Result<blocks::BlockSize, blocks::LineFault>
     requires { Triable form block.now t.old new row }
     ensures { BlockTried form block.now t.old t.new counts
         companies.now modes.now stations.now footnotes.now row new result }
@@ -126,10 +123,10 @@ fn try_block(
         block, form, new.fresh, t, row, counts, companies, modes, stations, footnotes, places,
         lines, stops,
     ) {
-        blocks::Checked::Whole(k, n) => blocks::Checked::Whole(k, n),
-        blocks::Checked::Broken(why, line) => {
+        Ok(size) => Ok(size),
+        Err(fault) => {
             if new.told {
-                return blocks::Checked::Broken(why, line);
+                return Err(fault);
             }
             judge_again(
                 block, form, t, row, counts, companies, modes, stations, footnotes, places,
@@ -155,21 +152,21 @@ pub fn add_block(
     lines: u64,
     stops: u64,
     search: bool,
-) -> BlockPut
+) -> Result<BlockPut, blocks::LineFault>
     requires { Addable block.now t.old marks.old run row }
     ensures { BlockAdded form block.now t.old t.new marks.new counts
         companies.now modes.now stations.now footnotes.now row search result }
 {
     let service = block_services::service_of(block);
     let new = tell_new(search, run, marks, t, row, service);
-    match try_block(
+    let size = try_block(
         block, form, new, t, row, counts, companies, modes, stations, footnotes, places, lines,
         stops,
-    ) {
-        blocks::Checked::Broken(why, line) => BlockPut::Faulty(why, line),
-        blocks::Checked::Whole(k, _) => {
-            let next = row + k as usize;
-            BlockPut::Kept(after_block(run, marks, block), next, new.told)
-        }
-    }
+    )?;
+    let next = row + size.lines as usize;
+    Ok(BlockPut {
+        run: after_block(run, marks, block),
+        row: next,
+        told: new.told,
+    })
 }

@@ -1,4 +1,5 @@
 -- Laws of what a walk over the blocks told, and of the whole file behind its first line. Assumes nothing.
+use Rattle.std.specs.Prelude.{Err, Ok, Result}
 use Prim.Native.Nat.{ℕ, ◌+◌, ◌-◌, ◌≤◌}
 use mathlib.Core.Path.{◌≡◌, refl, ap, sym, ◌∙◌}
 use mathlib.Core.List.{List, [], ◌∷◌, ◌++◌, append-nil}
@@ -7,18 +8,13 @@ use native.Mathlib.Omega.{arith}
 use lib.ListN.{length, take, drop, replicate, length-drop, take-append-drop}
 use lib.Seq.{take_all, drop-length}
 use Rattle.iff.specs.Lists.{any}
-use Rattle.iff.specs.Refusals.{or_else, first_fault, after}
+use Rattle.iff.specs.Refusals.{or_else, first_fault, after, Test, Verdict, at_place, fault_at}
 use Rattle.iff.specs.Lines.{Line, lines}
 use Rattle.iff.specs.Tables.{Row, row_width, fill, rows_in, keys_of, rising}
 use Rattle.iff.specs.declared.Form.{Form}
 use Rattle.iff.specs.declared.File.TheVariants.{Timetbls}
 use Rattle.iff.specs.declared.Reason.{Reason}
 use Rattle.iff.specs.declared.Reason.TheVariants.{Duplicate}
-use Rattle.iff.specs.declared.Place.TheVariants.{At}
-use Rattle.iff.specs.declared.Test.{Test}
-use Rattle.iff.specs.declared.Test.TheVariants.{Passes, Fails}
-use Rattle.iff.specs.declared.Verdict.{Verdict}
-use Rattle.iff.specs.declared.Verdict.TheVariants.{Fine}
 use Rattle.iff_rules.specs.Rows.{first_row_of, blocks_rows, blocks_of, Context}
 use Rattle.iff_rules.specs.Load.{timetbls_verdict}
 use Rattle.iff_laws.specs.ScanLaws.{or_nothing}
@@ -31,8 +27,6 @@ use Rattle.references.specs.declared.BlockCounts.{BlockCounts}
 use Rattle.references.specs.Agree.{BlockKeys, BlockKeysAmong}
 use Rattle.reading.specs.Reading.{Begun, Split, RowsDone, rows_verdict}
 use Rattle.block_rows.proofs.RowLaws.{key_skips, keys_nil}
-use Rattle.block_walks.specs.declared.BlocksPut.{BlocksPut}
-use Rattle.block_walks.specs.declared.BlocksPut.TheVariants.{Refused}
 use Rattle.block_ends.specs.Blocks.{part}
 use Rattle.block_puts.specs.Puts.{Holding}
 use Rattle.repeats.specs.declared.Repeats.{Repeats}
@@ -43,6 +37,8 @@ use Rattle.block_walks.specs.Blocks.{StrayTold, services_verdict, blocks_verdict
 use Rattle.block_walks.specs.Blocks.{BlocksAdded, AfterFirst, BlocksRead, as_read}
 use Rattle.block_walks.proofs.AddLaws.{width, none_held}
 use Rattle.block_walks.proofs.RepeatLaws.{all_new_lem, one_again}
+use Rattle.block_walks.specs.declared.BlocksPut.{BlocksPut}
+use Rattle.iff.specs.declared.Fault.{Fault}
 
 -- WHAT A WALK TOLD
 module _ (form : Form) (text : List ℕ) (from : ℕ) (counts : BlockCounts) (co mo st fo was is : List ℕ) (search : Bool) (r : Walk)
@@ -51,7 +47,7 @@ module _ (form : Form) (text : List ℕ) (from : ℕ) (counts : BlockCounts) (co
   put_services = keys_among Timetbls r.row is
 
   -- stands where no service came before
-  stands : services_verdict put_services ≡ Fine → BlocksAdded form text from counts co mo st fo was is r.put
+  stands : services_verdict put_services ≡ Ok tt → BlocksAdded form text from counts co mo st fo was is r.put
   stands e =
       record {
         says = λ c d a. ap (λ (v : Verdict). or_else v (rows_verdict (as_read r.put))) (sym e) ∙ y.says c d a;
@@ -67,12 +63,12 @@ module _ (form : Form) (text : List ℕ) (from : ℕ) (counts : BlockCounts) (co
     walk_never e = stands (all_new_lem put_services (t.never e))
 
     -- the first that came before is the fault
-    pub walk_again : (j : ℕ) → x ≡ First j → BlocksAdded form text from counts co mo st fo was is (Refused Duplicate (At Timetbls (j + 1) 1))
+    pub walk_again : (j : ℕ) → x ≡ First j → BlocksAdded form text from counts co mo st fo was is (fault_at Duplicate (at_place Timetbls (j + 1) 1))
     walk_again j e =
         let z = one_again put_services j (j + 1) (t.first j e) refl in
         record {
           says = λ c d a. ap (λ (v : Verdict). or_else v (rows_verdict (as_read r.put))) (sym z) ∙ y.says c d a;
-          held = none_held form text from was is Duplicate (At Timetbls (j + 1) 1);
+          held = none_held form text from was is Duplicate (at_place Timetbls (j + 1) 1);
         }
 
     -- whose ordinal is a number
@@ -102,7 +98,7 @@ module _ (text : List ℕ) (from : ℕ) (was marks : List ℕ) (p : BlocksReady 
       ∙ ap (λ (l : List ℕ). take width was ++ l) (sym behind) ∙ take-append-drop width was
 
   -- what was told of such a table is told of this one
-  pub told_again : (form : Form) (counts : BlockCounts) (co mo st fo t is : List ℕ) (r : BlocksPut) → t ≡ was
+  pub told_again : (form : Form) (counts : BlockCounts) (co mo st fo t is : List ℕ) (r : Result BlocksPut Fault) → t ≡ was
       → BlocksAdded form text from counts co mo st fo t is r → BlocksAdded form text from counts co mo st fo was is r
   told_again form counts co mo st fo t is r e y = rw e at y
 
@@ -149,13 +145,13 @@ after_first text t l from s = record { inside = s.inside; first = first_row_of T
 
 -- and what it tells is what is to be told of the rows behind that line's
 pub rows_read : (form : Form) (text t : List ℕ) (l : Line) (from : ℕ) → Split Timetbls text t l from
-    → (co mo st fo is : List ℕ) (r : BlocksPut) → BlocksRead form text from co mo st fo t is r
+    → (co mo st fo is : List ℕ) (r : Result BlocksPut Fault) → BlocksRead form text from co mo st fo t is r
     → RowsDone Timetbls form (λ c. BlockKeys c co mo st fo) (λ c. timetbls_verdict c (lines (drop from text))) (first_row_of Timetbls true l)
     (blocks_rows form (blocks_of (lines (drop from text)))) t is (as_read r)
 rows_read form text t l from s co mo st fo is r y = y.done (first_row_of Timetbls true l) s.begun
 
 module _ (text : List ℕ) (from : ℕ) (was : List ℕ) where
-  pub blocks_ready : AfterFirst text from was → (r : Test) → StrayTold (lines (drop from text)) r → r ≡ Passes
+  pub blocks_ready : AfterFirst text from was → (r : Test) → StrayTold (lines (drop from text)) r → r ≡ Ok tt
       → (marks : List ℕ) → Marked marks [] → BlocksReady text from was marks
   blocks_ready p r s e marks m =
       record {
@@ -167,7 +163,7 @@ module _ (text : List ℕ) (from : ℕ) (was : List ℕ) where
       }
 
   module _ (form : Form) (co mo st fo : List ℕ) (x : Test) (s : StrayTold (lines (drop from text)) x) where
-    pub read_stray : (w : Reason) → x ≡ Fails w → BlocksRead form text from co mo st fo was was (Refused w (At Timetbls 0 2))
+    pub read_stray : (w : Reason) → x ≡ Err w → BlocksRead form text from co mo st fo was was (fault_at w (at_place Timetbls 0 2))
     unfolding timetbls_verdict first_fault
     read_stray w e =
         record {
@@ -181,13 +177,13 @@ module _ (text : List ℕ) (from : ℕ) (was : List ℕ) where
           counted = λ b n m z. absurd (let q : ◌≡◌ {A = ℕ} 0 1 = cc in omega arith);
         }
 
-    verdict_is : (c : Context) → x ≡ Passes → timetbls_verdict c (lines (drop from text)) ≡ blocks_verdict c [] 1 (lines (drop from text))
+    verdict_is : (c : Context) → x ≡ Ok tt → timetbls_verdict c (lines (drop from text)) ≡ blocks_verdict c [] 1 (lines (drop from text))
     unfolding timetbls_verdict first_fault
     verdict_is c e = rw (s.clean e) (or_nothing (blocks_verdict c [] 1 (lines (drop from text))))
 
     -- among the rows in use, which name what the tables name
-    pub read_all : x ≡ Passes → (counts : BlockCounts) → ((c : Context) → BlockKeys c co mo st fo → BlockKeysAmong c counts co mo st fo)
-        → (is : List ℕ) (r : BlocksPut) → BlocksAdded form text from counts co mo st fo was is r → length is ≡ length was
+    pub read_all : x ≡ Ok tt → (counts : BlockCounts) → ((c : Context) → BlockKeys c co mo st fo → BlockKeysAmong c counts co mo st fo)
+        → (is : List ℕ) (r : Result BlocksPut Fault) → BlocksAdded form text from counts co mo st fo was is r → length is ≡ length was
         → BlocksRead form text from co mo st fo was is r
     read_all e counts among is r y m =
         record {

@@ -6,8 +6,6 @@ ghost use Rattle.iff.specs.declared.File.TheVariants.{Timetbls};
 ghost use Rattle.iff.specs.Tables.{row_width};
 ghost use Rattle.block_walks.specs.Blocks.{BlocksReady, first_alone, BlocksAdded};
 
-use block_walks::BlocksPut;
-
 // What stands behind the first row is cleared: the table is as it was before the first block.
 fn clear_blocks(t: &mut [u64])
     requires { row_width Timetbls ≤ length t.old }
@@ -31,7 +29,7 @@ pub fn walk_blocks(
     stations: &[u64],
     footnotes: &[u64],
     places: &[u32],
-) -> BlocksPut
+) -> Result<block_walks::BlocksPut, iff::Fault>
     requires { BlocksReady text.now from t.old marks.old }
     ensures { BlocksAdded form text.now from counts
         companies.now modes.now stations.now footnotes.now t.old t.new result }
@@ -45,8 +43,15 @@ pub fn walk_blocks(
     match repeats::first_repeat(t, walk.row, walk.done) {
         repeats::Repeats::Never => walk.put,
         repeats::Repeats::First(j) => {
-            let place = iff::Place::At(iff::File::Timetbls, j + 1, 1);
-            BlocksPut::Refused(iff::Reason::Duplicate, place)
+            let fault = iff::Fault {
+                reason: iff::Reason::Duplicate,
+                place: Some(iff::Place {
+                    file: iff::File::Timetbls,
+                    ordinal: j + 1,
+                    line: 1,
+                }),
+            };
+            Err(fault)
         }
         repeats::Repeats::Untold => {
             clear_blocks(t);

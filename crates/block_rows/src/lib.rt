@@ -41,14 +41,7 @@ pub fn write_block(block: &[u8], form: iff::Form, k: u64, n: u64, t: &mut [u64],
     ensures { t.new ≡ take (start * row_width Timetbls) t.old
         ++ (joined (block_rows form (as_block block.now)) ++ drop ((start + k) * row_width Timetbls) t.old) }
 {
-    let mut at: usize = 0;
-    let mut done: usize = 0;
-    while at < block.len() {
-        let number = done + 1;
-        let span = text::line_at(block, at);
-        let end = span.end;
-        put_line(&block[at..end], form, k, n, number as u64, t, start + done);
-        at = span.next;
-        done = number;
+    for (done, line) in text_lines::lines_of(block).enumerate() {
+        put_line(line.body, form, k, n, done as u64 + 1, t, start + done);
     }
 }

@@ -1,4 +1,5 @@
 -- Laws of the service that a block names: the columns of a line as far as it has them, and the first word of its row. Assumes nothing.
+use Rattle.std.specs.Prelude.{None, Some}
 use Prim.Native.Nat.{ℕ, ◌-◌, ◌≤◌, ◌<◌}
 use mathlib.Core.Path.{◌≡◌, refl, ap, sym, ◌∙◌}
 use mathlib.Core.List.{List, [], ◌∷◌}
@@ -15,7 +16,6 @@ use Rattle.iff.specs.Tables.{padded}
 use Rattle.iff.specs.Words.{named}
 use Rattle.iff.specs.declared.Form.{Form}
 use Rattle.iff.specs.declared.Record.TheVariants.{Passed, Interval, PlainStop}
-use Rattle.iff.specs.declared.Eol.TheVariants.{Ended, Unended}
 use Rattle.iff.specs.declared.File.TheVariants.{Timetbls}
 use Rattle.iff_rules.specs.Rows.{row_of, as_block}
 use Rattle.iff_rules.specs.Load.{service_of}
@@ -70,23 +70,23 @@ same_head : (form : Form) (l : Line) → named (row_of form Timetbls l) ≡ head
 unfolding head_word row_of
 same_head form l = refl
 
-not_empty : (t : List ℕ) (e : ℕ) → eol_at t 0 ≡ Ended e → 0 < length t
+not_empty : (t : List ℕ) (e : ℕ) → eol_at t 0 ≡ Some e → 0 < length t
 unfolding width
 not_empty [] e q = absurd (let z : ◌≡◌ {A = ℕ} 0 1 = cc in omega arith)
 not_empty (b ∷ t) e q = omega arith
 
-pub first_ends : (t : List ℕ) (e : ℕ) → eol_at t 0 ≡ Ended e → e ≤ length t
+pub first_ends : (t : List ℕ) (e : ℕ) → eol_at t 0 ≡ Some e → e ≤ length t
 first_ends t e q = omega (arith, after_ended t 0 (not_empty t e q) e q)
 
 -- a line as the first of some, so that its row names the block's service
 first_named : (form : Form) (t : List ℕ) (l : Line) (ls : List Line) → lines t ≡ l ∷ ls → head_word form l.body ≡ service_of form (as_block t)
 first_named form t l ls e = sym (ap (λ (s : List Line). named (row_of form Timetbls (get_or s 0 no_line))) e ∙ same_head form l)
 
-pub service_ended : (form : Form) (t : List ℕ) (e : ℕ) → eol_at t 0 ≡ Ended e
+pub service_ended : (form : Form) (t : List ℕ) (e : ℕ) → eol_at t 0 ≡ Some e
     → (v : ℕ) → v ≡ head_word form (take (e - 0) (drop 0 t)) → v ≡ service_of form (as_block t)
 service_ended form t e q v k = k ∙ first_named form t _ _ (after_ended t 0 (not_empty t e q) e q).head
 
-pub service_unended : (form : Form) (t : List ℕ) → eol_at t 0 ≡ Unended → (v : ℕ) → v ≡ head_word form t → v ≡ service_of form (as_block t)
+pub service_unended : (form : Form) (t : List ℕ) → eol_at t 0 ≡ None → (v : ℕ) → v ≡ head_word form t → v ≡ service_of form (as_block t)
 unfolding lines
 service_unended form [] q v k = k ∙ sym (same_head form no_line)
 service_unended form (b ∷ t) q v k = k ∙ first_named form (b ∷ t) _ _ (after_unended (b ∷ t) 0 (omega arith) q)

@@ -27,7 +27,7 @@ pub fn service_of(block: &[u8]) -> u64
     ensures { (form : Form) → result ≡ service_of form (as_block block.now) }
 {
     match text::line_end(block, 0) {
-        iff::Eol::Ended(e) => head_word(&block[0..e]),
-        iff::Eol::Unended => head_word(block),
+        Some(e) => head_word(&block[0..e]),
+        None => head_word(block),
     }
 }

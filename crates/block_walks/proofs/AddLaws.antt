@@ -1,4 +1,5 @@
 -- Laws of blocks one after the other. Assumes nothing.
+use Rattle.std.specs.Prelude.{Ok, Option, Result}
 use Prim.Native.Nat.{ℕ, suc, ◌+◌, ◌*◌, ◌≤◌}
 use mathlib.Core.Path.{◌≡◌, refl, ap, sym, ◌∙◌}
 use mathlib.Core.List.{List, [], ◌∷◌, ◌++◌, append_assoc, append-nil}
@@ -8,16 +9,12 @@ use native.Mathlib.Omega.{arith}
 use lib.ListN.{length, take, drop, length-append}
 use lib.Seq.{take-take}
 use Rattle.iff.specs.Lists.{groups, members}
-use Rattle.iff.specs.Refusals.{or_else, scan}
+use Rattle.iff.specs.Refusals.{or_else, scan, Verdict, at_place, fault_at}
 use Rattle.iff.specs.Lines.{lines}
 use Rattle.iff.specs.Tables.{Row, row_width, rows_in}
 use Rattle.iff.specs.declared.Form.{Form}
 use Rattle.iff.specs.declared.File.TheVariants.{Timetbls}
 use Rattle.iff.specs.declared.Reason.{Reason}
-use Rattle.iff.specs.declared.Place.{Place}
-use Rattle.iff.specs.declared.Place.TheVariants.{At}
-use Rattle.iff.specs.declared.Verdict.{Verdict}
-use Rattle.iff.specs.declared.Verdict.TheVariants.{Fine, Fault}
 use Rattle.iff_rules.specs.Rows.{block_rows, blocks_rows, blocks_of, lines_in, stops_in, as_block, Context}
 use Rattle.iff_rules.specs.Load.{block_verdict, service_of}
 use Rattle.iff_laws.specs.TruthLaws.{both, and_both}
@@ -30,14 +27,16 @@ use Rattle.references.specs.declared.BlockCounts.{BlockCounts}
 use Rattle.references.specs.Agree.{BlockKeysAmong}
 use Rattle.fresh_keys.proofs.Runs.{run_rises}
 use Rattle.block_rows.proofs.RowLaws.{rows_count}
-use Rattle.block_puts.specs.declared.BlockPut.{BlockPut}
-use Rattle.block_puts.specs.declared.BlockPut.TheVariants.{Kept, Faulty}
-use Rattle.block_walks.specs.declared.BlocksPut.TheVariants.{All, Refused}
 use Rattle.block_ends.specs.Blocks.{part, Clean, NextBlock}
-use Rattle.block_puts.specs.Puts.{Holding, new_verdict, Addable, BlockAdded}
+use Rattle.block_puts.specs.Puts.{Holding, new_verdict, Addable, BlockAdded, put_of}
 use Rattle.block_puts.proofs.AgainLaws.{same_services}
-use Rattle.block_walks.specs.Blocks.{services_verdict, blocks_verdict, BlocksReady, BlocksHeld, BlocksWalked}
+use Rattle.block_walks.specs.declared.BlocksPut.{BlocksPut}
+use Rattle.block_walks.specs.Blocks.{services_verdict, blocks_verdict, BlocksReady, BlocksHeld, BlocksWalked, all_put}
 use Rattle.block_walks.proofs.RepeatLaws.{or_assoc, services_none, services_next}
+use Rattle.block_puts.specs.declared.BlockPut.{BlockPut}
+use Rattle.blocks.specs.Drive.{held_at}
+use Rattle.blocks.specs.declared.LineFault.{LineFault}
+use Rattle.iff.specs.declared.Place.{Place}
 
 abbrev pub width : ℕ
 width = row_width Timetbls
@@ -58,7 +57,7 @@ pub record Adding (form : Form) (text : List ℕ) (from : ℕ) (counts : BlockCo
   pub rows :
       rows_in Timetbls was ++ blocks_rows form (blocks_of (lines (drop from text)))
       ≡ rows_in Timetbls is ++ blocks_rows form (blocks_of (lines (drop at text)))
-  pub certain : sure ≡ true → services_verdict (keys_in Timetbls is) ≡ Fine
+  pub certain : sure ≡ true → services_verdict (keys_in Timetbls is) ≡ Ok tt
   pub asked : search ≡ true → sure ≡ true
   pub says :
       (c : Context) → c.form ≡ form → BlockKeysAmong c counts co mo st fo
@@ -72,7 +71,7 @@ first_kept row was is h e =
     sym (take-take width (row * width) is w) ∙ ap (take width) e ∙ take-take width (row * width) was w
 
 -- nothing is told of rows where there is a fault
-pub none_held : (form : Form) (text : List ℕ) (from : ℕ) (was is : List ℕ) (w : Reason) (p : Place) → BlocksHeld form text from was is (Refused w p)
+pub none_held : (form : Form) (text : List ℕ) (from : ℕ) (was is : List ℕ) (w : Reason) (p : Option Place) → BlocksHeld form text from was is (fault_at w p)
 none_held form text from was is w p =
     record {
       filled = λ z. absurd (let q : ◌≡◌ {A = ℕ} 0 1 = cc in omega arith);
@@ -85,7 +84,7 @@ module _ (form : Form) (text : List ℕ) (from : ℕ) (counts : BlockCounts) (co
   pub adding_start : (marks : List ℕ) → BlocksReady text from was marks → (run : KeyRun) → run ≡ no_keys
       → Adding form text from counts co mo st fo was was marks from 1 0 run search true
   adding_start marks p run e =
-      let n : services_verdict (keys_in Timetbls was) ≡ Fine = ap services_verdict p.none ∙ services_none in
+      let n : services_verdict (keys_in Timetbls was) ≡ Ok tt = ap services_verdict p.none ∙ services_none in
       record {
         inside = p.inside;
         few = omega arith;
@@ -130,19 +129,19 @@ module _ (form : Form) (text : List ℕ) (from : ℕ) (counts : BlockCounts) (co
       step : (c : Context) → c.form ≡ form → blocks_verdict c (keys_in Timetbls is) (suc done) (lines (drop at text)) ≡ Then c form
       step c d = steps c ∙ ap (Then c) d
 
-      module _ (to more : List ℕ) (r : BlockPut) (y : BlockAdded form b is to more counts co mo st fo row search r) (m : length to ≡ length is) where
-        pub adding_faulty : (w : Reason) (j : ℕ) → r ≡ Faulty w j
+      module _ (to more : List ℕ) (r : Result BlockPut LineFault) (y : BlockAdded form b is to more counts co mo st fo row search r) (m : length to ≡ length is) where
+        pub adding_faulty : (w : Reason) (j : ℕ) → r ≡ held_at w j
             → BlocksWalked form text from counts co mo st fo was to search
-            (record { put = Refused w (At Timetbls (done + 1) j); row = row; done = done; sure = sure })
+            (record { put = fault_at w (at_place Timetbls (done + 1) j); row = row; done = done; sure = sure })
         adding_faulty w j e =
             let front = (y.kept w j e).front in
             let ks : keys_among Timetbls row to ≡ keys_in Timetbls is =
             same_services row is to fits (omega (arith, fits)) front ∙ keys_counted Timetbls is row k.holding.rows in
             record {
               says =
-                  λ c d a. let z : Then c form ≡ Fault w (At Timetbls (suc done) j) = rw (← (y.says c d a (suc done)), e) in
-                  ap (λ (l : List ℕ). or_else (services_verdict l) (Fault w (At Timetbls (done + 1) j))) ks
-                  ∙ ap (λ (o : ℕ). or_else (services_verdict (keys_in Timetbls is)) (Fault w (At Timetbls o j))) (add-one done)
+                  λ c d a. let z : Then c form ≡ fault_at w (at_place Timetbls (suc done) j) = rw (← (y.says c d a (suc done)), e) in
+                  ap (λ (l : List ℕ). or_else (services_verdict l) (fault_at w (at_place Timetbls (done + 1) j))) ks
+                  ∙ ap (λ (o : ℕ). or_else (services_verdict (keys_in Timetbls is)) (fault_at w (at_place Timetbls o j))) (add-one done)
                   ∙ sym (k.says c d a ∙ ap (or_else (services_verdict (keys_in Timetbls is))) (step c d ∙ z));
               certain = λ s. ap services_verdict ks ∙ k.certain s;
               asked = k.asked;
@@ -150,10 +149,10 @@ module _ (form : Form) (text : List ℕ) (from : ℕ) (counts : BlockCounts) (co
               few = omega (arith, k.few, k.inside);
               room = omega (arith, fits);
               first = first_kept row is to k.some front ∙ k.first;
-              held = none_held form text from was to w (At Timetbls (done + 1) j);
+              held = none_held form text from was to w (at_place Timetbls (done + 1) j);
             }
 
-        pub adding_next : (with : KeyRun) (behind : ℕ) (told : Bool) → r ≡ Kept with behind told → (still : Bool) → still ≡ (sure && told)
+        pub adding_next : (with : KeyRun) (behind : ℕ) (told : Bool) → r ≡ put_of with behind told → (still : Bool) → still ≡ (sure && told)
             → Adding form text from counts co mo st fo was to more next behind (done + 1) with search still
         unfolding blocks_rows
         adding_next with behind told e still u =
@@ -200,18 +199,18 @@ module _ (form : Form) (text : List ℕ) (from : ℕ) (counts : BlockCounts) (co
       unfolding groups
       none = ap blocks_of (lines_end text at h)
 
-      no_fault : (c : Context) → blocks_verdict c (keys_in Timetbls is) (suc done) (lines (drop at text)) ≡ Fine
+      no_fault : (c : Context) → blocks_verdict c (keys_in Timetbls is) (suc done) (lines (drop at text)) ≡ Ok tt
       unfolding scan
       no_fault c = rw none
 
       pub adding_end : BlocksWalked form text from counts co mo st fo was is search
-          (record { put = All run.rises row done; row = row; done = done; sure = sure })
+          (record { put = all_put run.rises row done; row = row; done = done; sure = sure })
       unfolding blocks_rows
       adding_end =
           let ks : keys_among Timetbls row is ≡ keys_in Timetbls is = keys_counted Timetbls is row k.holding.rows in
           record {
             says =
-                λ c d a. ap (λ (l : List ℕ). or_else (services_verdict l) Fine) ks
+                λ c d a. ap (λ (l : List ℕ). or_else (services_verdict l) (Ok tt)) ks
                 ∙ sym (k.says c d a ∙ ap (or_else (services_verdict (keys_in Timetbls is))) (no_fault c));
             certain = λ s. ap services_verdict ks ∙ k.certain s;
             asked = k.asked;
@@ -225,8 +224,9 @@ module _ (form : Form) (text : List ℕ) (from : ℕ) (counts : BlockCounts) (co
                   rows = λ z. sym (k.rows ∙ ap (λ gs. rows_in Timetbls is ++ blocks_rows form gs) none ∙ append-nil (rows_in Timetbls is));
                   rises = λ z. ap (λ (s : KeyRun). s.rises) k.holding.services ∙ run_rises (keys_in Timetbls is);
                   counted =
-                      λ b n m z. let p : row ≡ n = cc in
-                      let q : done ≡ m = cc in
+                      λ b n m z. let same : ◌≡◌ {A = BlocksPut} (record { rise = run.rises; rows = row; services = done }) (record { rise = b; rows = n; services = m }) = cc in
+                      let p : row ≡ n = ap (λ x. x.rows) same in
+                      let q : done ≡ m = ap (λ x. x.services) same in
                       record { rows = sym p ∙ k.holding.rows; services = sym q ∙ k.counted };
                 };
           }

@@ -1,4 +1,5 @@
 -- Laws of services one after the other: whether each is new, or which is the first that came before. Assumes nothing.
+use Rattle.std.specs.Prelude.{Err, Ok}
 use Prim.Native.Nat.{ℕ, suc, ◌+◌}
 use mathlib.Core.Path.{◌≡◌, refl, ap, sym, ◌∙◌}
 use mathlib.Core.List.{List, [], ◌∷◌, ◌++◌, append_assoc, append-nil}
@@ -8,12 +9,9 @@ use native.Mathlib.Omega.{arith}
 use lib.ListN.{length, get_or, take, drop}
 use lib.Seq.{split_at, length-take-le}
 use Rattle.iff.specs.Lists.{has}
-use Rattle.iff.specs.Refusals.{or_else, scan, after}
+use Rattle.iff.specs.Refusals.{or_else, scan, after, Verdict, at_place, fault_at}
 use Rattle.iff.specs.declared.File.TheVariants.{Timetbls}
 use Rattle.iff.specs.declared.Reason.TheVariants.{Duplicate}
-use Rattle.iff.specs.declared.Place.TheVariants.{At}
-use Rattle.iff.specs.declared.Verdict.{Verdict}
-use Rattle.iff.specs.declared.Verdict.TheVariants.{Fine, Fault}
 use Rattle.iff_desk.specs.Sound.{passes, followed_by, distinct}
 use Rattle.iff_laws.specs.ScanLaws.{or_nothing}
 use Rattle.iff_laws.specs.TruthLaws.{both}
@@ -23,8 +21,8 @@ use Rattle.block_walks.specs.Blocks.{services_verdict}
 
 -- VERDICTS IN TURN
 pub or_assoc : (u v w : Verdict) → or_else u (or_else v w) ≡ or_else (or_else u v) w
-or_assoc Fine v w = refl
-or_assoc (Fault r p) v w = refl
+or_assoc (Ok _) v w = refl
+or_assoc (Err fault) v w = refl
 
 module _ {S A : Type 0} (test : S → ℕ → A → Verdict) (next : S → A → S) where
   scan_append : (st : S) (i : ℕ) (xs ys : List A)
@@ -53,7 +51,7 @@ parted ks k qs =
     ∙ ap (λ (seen : List ℕ). or_else (scan new_verdict followed_by [] 1 ks) (scan new_verdict followed_by seen (1 + length ks) (k ∷ qs))) (after_all [] ks)
 
 -- none yet
-pub services_none : services_verdict [] ≡ Fine
+pub services_none : services_verdict [] ≡ Ok tt
 unfolding services_verdict scan
 services_none = refl
 
@@ -65,19 +63,19 @@ services_next ks k o e =
     parted ks k [] ∙ ap (or_else (services_verdict ks)) (or_nothing (new_verdict ks (1 + length ks) k) ∙ ap (λ (i : ℕ). new_verdict ks i k) n)
 
 -- of which each is new
-new_from : (seen : List ℕ) (o : ℕ) (ks : List ℕ) → passes (λ seen k. not (has k seen)) followed_by seen ks ≡ true → scan new_verdict followed_by seen o ks ≡ Fine
+new_from : (seen : List ℕ) (o : ℕ) (ks : List ℕ) → passes (λ seen k. not (has k seen)) followed_by seen ks ≡ true → scan new_verdict followed_by seen o ks ≡ Ok tt
 unfolding scan passes
 new_from seen o [] e = refl
 new_from seen o (k ∷ ks) e =
     let p = both (not (has k seen)) (passes (λ seen k. not (has k seen)) followed_by (followed_by seen k) ks) e in
     rw p.0 (new_from (followed_by seen k) (suc o) ks p.1)
 
-pub all_new_lem : (ks : List ℕ) → distinct ks ≡ true → services_verdict ks ≡ Fine
+pub all_new_lem : (ks : List ℕ) → distinct ks ≡ true → services_verdict ks ≡ Ok tt
 unfolding services_verdict distinct
 all_new_lem ks e = new_from [] 1 ks e
 
 -- or of which one is the first that came before
-pub one_again : (ks : List ℕ) (j o : ℕ) → FirstRepeat ks j → o ≡ j + 1 → services_verdict ks ≡ Fault Duplicate (At Timetbls o 1)
+pub one_again : (ks : List ℕ) (j o : ℕ) → FirstRepeat ks j → o ≡ j + 1 → services_verdict ks ≡ fault_at Duplicate (at_place Timetbls o 1)
 one_again ks j o f e =
     let n : length (take j ks) ≡ j = length-take-le j ks (omega (arith, f.inside)) in
     let m : 1 + length (take j ks) ≡ o = omega arith in

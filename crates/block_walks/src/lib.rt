@@ -5,18 +5,19 @@
 ghost use Rattle.std.specs.Prelude.{◌≡◌, ◌&&◌};
 ghost use Rattle.block_walks.specs.Blocks.{BlocksReady, BlocksWalked};
 
-// What became of all of them: whether the services rise, how many rows the table has with them, and how many services; or the first fault.
+// What all of the blocks come to that were put: whether the services rise, how many rows the table has with them, and how many services.
 #[derive(Clone, Copy)]
-pub enum BlocksPut {
-    All(bool, usize, u64),
-    Refused(iff::Reason, iff::Place),
+pub struct BlocksPut {
+    pub rise: bool,
+    pub rows: usize,
+    pub services: u64,
 }
 
 // The same with what is known at the end of a walk over the blocks: in how many rows of the table the blocks stand that were put, how many those are,
 // and whether each was told to name a new service. Where not, a service that came twice is the first fault.
 #[derive(Clone, Copy)]
 pub struct Walk {
-    pub put: BlocksPut,
+    pub put: Result<BlocksPut, iff::Fault>,
     pub row: usize,
     pub done: u64,
     pub sure: bool,
@@ -56,6 +57,7 @@ pub fn add_blocks(
     let mut done: u64 = 0;
     let mut sure = true;
     let mut run = fresh_keys::no_keys();
+    // A loop by hand: where a block ends is known only once the next one was looked for, so no range says it.
     while at < text.len() {
         let ordinal = done + 1;
         let found = block_ends::next_head(text, at);
@@ -77,26 +79,37 @@ pub fn add_blocks(
             found.stops,
             search,
         ) {
-            block_puts::BlockPut::Faulty(why, line) => {
-                let place = iff::Place::At(iff::File::Timetbls, ordinal, line);
+            Err(fault) => {
+                let place = Some(iff::Place {
+                    file: iff::File::Timetbls,
+                    ordinal,
+                    line: fault.line,
+                });
                 return Walk {
-                    put: BlocksPut::Refused(why, place),
+                    put: Err(iff::Fault {
+                        reason: fault.reason,
+                        place,
+                    }),
                     row: row,
                     done: done,
                     sure: sure,
                 };
             }
-            block_puts::BlockPut::Kept(with, behind, told) => {
+            Ok(put) => {
                 at = next;
-                row = behind;
+                row = put.row;
                 done = ordinal;
-                sure = both(sure, told);
-                run = with;
+                sure = both(sure, put.told);
+                run = put.run;
             }
         }
     }
     Walk {
-        put: BlocksPut::All(run.rises, row, done),
+        put: Ok(BlocksPut {
+            rise: run.rises,
+            rows: row,
+            services: done,
+        }),
         row: row,
         done: done,
         sure: sure,

@@ -1,3 +1,4 @@
 pub mod DriveLaws
 pub mod ReadLaws
 pub mod WholeLaws
+pub mod SizeLaws

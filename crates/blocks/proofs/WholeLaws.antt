@@ -1,4 +1,5 @@
 -- Laws of a whole block: what its lines, its end and its legs say is the paper's verdict. Assumes nothing.
+use Rattle.std.specs.Prelude.{Ok, Result}
 use Prim.Native.Nat.{ℕ, ◌<◌}
 use mathlib.Core.Path.{◌≡◌, refl, ap, sym, ◌∙◌}
 use mathlib.Core.List.{List, [], ◌∷◌}
@@ -6,14 +7,12 @@ use mathlib.Core.Bool.{Bool, true, false, cond, not}
 use native.Mathlib.Omega.{arith}
 use lib.ListN.{length}
 use Rattle.iff.specs.Lists.{Group, any, members, kept, has}
-use Rattle.iff.specs.Refusals.{first_test, verdict_at, first_fault, scan, after}
+use Rattle.iff.specs.Refusals.{first_test, verdict_at, first_fault, scan, after, Verdict, at_place}
 use Rattle.iff.specs.Lines.{Line, lines, letter, is_hash}
 use Rattle.iff.specs.declared.Form.{Form}
 use Rattle.iff.specs.declared.File.TheVariants.{Timetbls}
 use Rattle.iff.specs.declared.Reason.{Reason}
 use Rattle.iff.specs.declared.Reason.TheVariants.{Layout, Order, Legs}
-use Rattle.iff.specs.declared.Place.TheVariants.{At}
-use Rattle.iff.specs.declared.Verdict.{Verdict}
 use Rattle.iff.specs.declared.InBlock.{InBlock}
 use Rattle.iff_rules.specs.Order.{line_test, finished, is_stop}
 use Rattle.iff_rules.specs.Rows.{row_of, block_rows, as_block, Context}
@@ -26,14 +25,12 @@ use Rattle.records.proofs.FileLaws.{row_tag}
 use Rattle.block_legs.specs.Sight.{LegibleBlock}
 use Rattle.legs.proofs.RowLaws.{block_lines_lem}
 use Rattle.block_lines.specs.Lines.{keys_from}
-use Rattle.blocks.specs.Drive.{drive, drive_at, driven_at}
+use Rattle.blocks.specs.Drive.{drive, drive_at, driven_at, held_at, size_of}
 use Rattle.blocks.specs.Whole.{LinesRead, last_tests, BlockChecked}
-use Rattle.blocks.specs.declared.Checked.{Checked}
-use Rattle.blocks.specs.declared.Checked.TheVariants.{Whole, Broken}
-use Rattle.blocks.specs.declared.Driven.{Driven}
-use Rattle.blocks.specs.declared.Driven.TheVariants.{Through, Held}
 use Rattle.block_lines.proofs.TestLaws.{SameKeys}
 use Rattle.blocks.proofs.DriveLaws.{drive_says, came_through}
+use Rattle.blocks.specs.declared.BlockSize.{BlockSize}
+use Rattle.blocks.specs.declared.LineFault.{LineFault}
 
 -- the lent tables' own context agrees with every other of its form
 same_keys : (form : Form) (c : Context) (counts : BlockCounts) (co mo st fo : List ℕ) → c.form ≡ form → BlockKeysAmong c counts co mo st fo
@@ -58,7 +55,7 @@ fresh_service form seen g e = rw (row_tag form Timetbls, e)
 
 -- AN EMPTY TEXT has one line, and that has no letter
 pub empty_checked : (form : Form) (fresh : Bool) (counts : BlockCounts) (t co mo st fo : List ℕ) → length t ≡ 0
-    → BlockChecked form t fresh counts co mo st fo (Broken Layout 1)
+    → BlockChecked form t fresh counts co mo st fo (held_at Layout 1)
 unfolding block_verdict first_fault scan block_test line_test first_test any lines
 empty_checked form fresh counts (b ∷ t) co mo st fo e = absurd (omega arith)
 empty_checked form fresh counts [] co mo st fo e =
@@ -66,11 +63,11 @@ empty_checked form fresh counts [] co mo st fo e =
 
 module _ (form : Form) (fresh : Bool) (counts : BlockCounts) (t co mo st fo : List ℕ) (some : 0 < length t) where
   -- the lines of the block, as they are driven
-  abbrev driven : Driven
+  abbrev driven : Result (InBlock × ℕ) LineFault
   driven = drive_at (keys_from form counts co mo st fo) fresh t 0 block_start 0
 
   abbrev Scanned : Context → List ℕ → ℕ → Verdict
-  Scanned c seen o = scan (λ s j l. verdict_at (At Timetbls o j) (block_test c seen s l)) block_next block_start 1 (members (as_block t))
+  Scanned c seen o = scan (λ s j l. verdict_at (at_place Timetbls o j) (block_test c seen s l)) block_next block_start 1 (members (as_block t))
 
   scanned : (c : Context) → c.form ≡ form → BlockKeysAmong c counts co mo st fo → (seen : List ℕ)
       → fresh ≡ fresh_key Timetbls seen (row_of form Timetbls (as_block t).top) → (o : ℕ) → Scanned c seen o ≡ driven_at o driven
@@ -80,7 +77,7 @@ module _ (form : Form) (fresh : Bool) (counts : BlockCounts) (t co mo st fo : Li
       ∙ ap (λ ls. driven_at o (drive own fresh block_start 0 ls)) (block_lines_lem t some)
 
   -- a line is at fault
-  pub held_checked : (w : Reason) (j : ℕ) → driven ≡ Held w j → BlockChecked form t fresh counts co mo st fo (Broken w j)
+  pub held_checked : (w : Reason) (j : ℕ) → driven ≡ held_at w j → BlockChecked form t fresh counts co mo st fo (held_at w j)
   unfolding block_verdict first_fault
   held_checked w j e =
       record {
@@ -89,7 +86,7 @@ module _ (form : Form) (fresh : Bool) (counts : BlockCounts) (t co mo st fo : Li
       }
 
   -- the lines are through
-  pub lines_read : (end : InBlock) (m : ℕ) → driven ≡ Through end m → LinesRead form t end m
+  pub lines_read : (end : InBlock) (m : ℕ) → driven ≡ Ok (end, m) → LinesRead form t end m
   lines_read end m e =
       let d = came_through (keys_from form counts co mo st fo) fresh (lines t) block_start 0 end m e in
       record {
@@ -101,7 +98,7 @@ module _ (form : Form) (fresh : Bool) (counts : BlockCounts) (t co mo st fo : Li
         each = rw (keys_form form counts co mo st fo) at d.read;
       }
 
-  pub last_checked : (end : InBlock) (m : ℕ) → driven ≡ Through end m → (r : Checked) → r ≡ last_tests form t end m
+  pub last_checked : (end : InBlock) (m : ℕ) → driven ≡ Ok (end, m) → (r : Result BlockSize LineFault) → r ≡ last_tests form t end m
       → BlockChecked form t fresh counts co mo st fo r
   unfolding block_verdict first_fault last_tests
   last_checked end m e r q = rw q (go (finished end.stand) refl (legs reach_of (block_rows form (as_block t))) refl)
@@ -113,7 +110,7 @@ module _ (form : Form) (fresh : Bool) (counts : BlockCounts) (t co mo st fo : Li
       at_end = ap (after block_next block_start) (block_lines_lem t some) ∙ read.ended
 
       go : (b : Bool) → finished end.stand ≡ b → (d : Bool) → legs reach_of (block_rows form (as_block t)) ≡ d
-          → BlockChecked form t fresh counts co mo st fo (cond b (cond d (Whole m end.stops) (Broken Legs 1)) (Broken Order m))
+          → BlockChecked form t fresh counts co mo st fo (cond b (cond d (size_of m end.stops) (held_at Legs 1)) (held_at Order m))
       go false p d s =
           record {
             says = λ c x k seen f o. rw (scanned c x k seen f o, e, at_end, p, ← read.counted);
@@ -128,8 +125,9 @@ module _ (form : Form) (fresh : Bool) (counts : BlockCounts) (t co mo st fo : Li
           record {
             says = λ c x k seen f o. rw (scanned c x k seen f o, e, at_end, p, x, s);
             whole =
-                λ k n x. let i : m ≡ k = cc in
-                let j : end.stops ≡ n = cc in
+                λ k n x. let z : ◌≡◌ {A = BlockSize} (record { lines = m; stops = end.stops }) (record { lines = k; stops = n }) = cc in
+                let i : m ≡ k = ap (λ z. z.lines) z in
+                let j : end.stops ≡ n = ap (λ z. z.stops) z in
                 record {
                   some = some;
                   counted = sym i ∙ read.counted;

@@ -8,39 +8,33 @@ ghost use Rattle.block_lines.specs.Lines.{keys_from};
 ghost use Rattle.blocks.specs.Drive.{drive_at, turn_to, Standing, TurnsTo};
 ghost use Rattle.blocks.specs.Whole.{LinesRead, last_tests, BlockChecked};
 
-// What the line that starts somewhere in a text leads to, with the start of the next.
+// Why a block is refused, and at which of its lines, from 1.
 #[derive(Clone, Copy)]
-pub enum Turned {
-    On(usize, iff::InBlock),
-    Off(iff::Reason),
+pub struct LineFault {
+    pub reason: iff::Reason,
+    pub line: u64,
 }
 
-// What the lines of a block lead to: where they stand and how many they are, or why and at which line they are held.
+// The lines and the stops of a block that is whole.
 #[derive(Clone, Copy)]
-pub enum Driven {
-    Through(iff::InBlock, u64),
-    Held(iff::Reason, u64),
-}
-
-// What is said of a block: its lines and its stops, or why it is refused and at which line, from 1.
-#[derive(Clone, Copy)]
-pub enum Checked {
-    Whole(u64, u64),
-    Broken(iff::Reason, u64),
+pub struct BlockSize {
+    pub lines: u64,
+    pub stops: u64,
 }
 
 // THE LINES OF A BLOCK, where they stand in its text
 
-fn turn_to(step: block_lines::LineStep, next: usize) -> Turned
+fn turn_to(
+    step: Result<iff::InBlock, iff::Reason>,
+    next: usize,
+) -> Result<(usize, iff::InBlock), iff::Reason>
     ensures { result ≡ turn_to step next }
 {
-    match step {
-        block_lines::LineStep::Leads(st) => Turned::On(next, st),
-        block_lines::LineStep::Refused(why) => Turned::Off(why),
-    }
+    let st = step?;
+    Ok((next, st))
 }
 
-// The line that starts at `at`.
+// The line that starts at `at`: where the block stands after it, with the start of the next line.
 fn line_at(
     block: &[u8],
     at: usize,
@@ -53,7 +47,7 @@ fn line_at(
     stations: &[u64],
     footnotes: &[u64],
     places: &[u32],
-) -> Turned
+) -> Result<(usize, iff::InBlock), iff::Reason>
     requires { (at < length block.now) × (st.stops ≤ most_stops) }
     ensures { TurnsTo
         (keys_from form counts companies.now modes.now stations.now footnotes.now)
@@ -80,7 +74,8 @@ fn line_at(
 }
 
 // All lines from `from` on, before which `before` lines lead to `start`. A platform record is handed to the reader of platforms: so the two are
-// called within each other once for each platform record, however many other lines there are.
+// called within each other once for each platform record, however many other lines there are. They lead to where the block stands then and to how
+// many lines there are.
 #[cycle(read_platform_read_stops)]
 fn read_stops(
     block: &[u8],
@@ -95,7 +90,7 @@ fn read_stops(
     stations: &[u64],
     footnotes: &[u64],
     places: &[u32],
-) -> Driven
+) -> Result<(iff::InBlock, u64), LineFault>
     requires { Standing block.now from before start }
     ensures { result ≡ drive_at
         (keys_from form counts companies.now modes.now stations.now footnotes.now)
@@ -104,6 +99,7 @@ fn read_stops(
     let mut at = from;
     let mut done = before;
     let mut st = start;
+    // A loop by hand: at a platform record another reader goes on from where the line begins, and a line alone does not tell that.
     while at < block.len() {
         let number = done + 1;
         if block[at] == b'?' {
@@ -115,17 +111,20 @@ fn read_stops(
         match line_at(
             block, at, form, st, fresh, counts, companies, modes, stations, footnotes, places,
         ) {
-            Turned::Off(why) => {
-                return Driven::Held(why, number);
+            Err(why) => {
+                return Err(LineFault {
+                    reason: why,
+                    line: number,
+                });
             }
-            Turned::On(next, to) => {
+            Ok((next, to)) => {
                 at = next;
                 done = number;
                 st = to;
             }
         }
     }
-    Driven::Through(st, done)
+    Ok((st, done))
 }
 
 // One platform record, and then the stops again.
@@ -143,7 +142,7 @@ fn read_platform(
     stations: &[u64],
     footnotes: &[u64],
     places: &[u32],
-) -> Driven
+) -> Result<(iff::InBlock, u64), LineFault>
     requires { (at < length block.now) × Standing block.now at before st }
     ensures { result ≡ drive_at
         (keys_from form counts companies.now modes.now stations.now footnotes.now)
@@ -153,8 +152,11 @@ fn read_platform(
     match line_at(
         block, at, form, st, fresh, counts, companies, modes, stations, footnotes, places,
     ) {
-        Turned::Off(why) => Driven::Held(why, number),
-        Turned::On(next, to) => read_stops(
+        Err(why) => Err(LineFault {
+            reason: why,
+            line: number,
+        }),
+        Ok((next, to)) => read_stops(
             block, next, number, form, to, fresh, counts, companies, modes, stations, footnotes,
             places,
         ),
@@ -164,19 +166,30 @@ fn read_platform(
 // A WHOLE BLOCK
 
 // What comes after the last line: whether the block may end there, and its legs.
-fn last_tests(block: &[u8], form: iff::Form, st: iff::InBlock, lines: u64) -> Checked
+fn last_tests(
+    block: &[u8],
+    form: iff::Form,
+    st: iff::InBlock,
+    lines: u64,
+) -> Result<BlockSize, LineFault>
     requires { LinesRead form block.now st lines }
     ensures { result ≡ last_tests form block.now st lines }
 {
     let stand = st.stand;
     if !order::is_finished(stand) {
-        return Checked::Broken(iff::Reason::Order, lines);
+        return Err(LineFault {
+            reason: iff::Reason::Order,
+            line: lines,
+        });
     }
     let stops = st.stops;
     if !block_legs::are_right(block, form, stops) {
-        return Checked::Broken(iff::Reason::Legs, 1);
+        return Err(LineFault {
+            reason: iff::Reason::Legs,
+            line: 1,
+        });
     }
-    Checked::Whole(lines, stops)
+    Ok(BlockSize { lines, stops })
 }
 
 // The first fault of a block, or its lines and stops. `fresh` tells whether the service of its `#` is new. An empty text is one empty line.
@@ -191,21 +204,22 @@ pub fn check_block(
     stations: &[u64],
     footnotes: &[u64],
     places: &[u32],
-) -> Checked
+) -> Result<BlockSize, LineFault>
     ensures { BlockChecked form block.now fresh counts companies.now modes.now
         stations.now footnotes.now result }
 {
     if block.len() == 0 {
-        return Checked::Broken(iff::Reason::Layout, 1);
+        return Err(LineFault {
+            reason: iff::Reason::Layout,
+            line: 1,
+        });
     }
     let start = iff::InBlock {
         stand: iff::Stand::Start,
         stops: 0,
     };
-    match read_stops(
+    let (st, lines) = read_stops(
         block, 0, 0, form, start, fresh, counts, companies, modes, stations, footnotes, places,
-    ) {
-        Driven::Held(why, line) => Checked::Broken(why, line),
-        Driven::Through(st, lines) => last_tests(block, form, st, lines),
-    }
+    )?;
+    last_tests(block, form, st, lines)
 }

@@ -1,5 +1,6 @@
 -- Laws of days: the table of months is small and rises, the closed form counts the days of the years, a day's number and a span are small.
 -- Assumes nothing.
+use Rattle.std.specs.Prelude.{None, Option, Some}
 use Prim.Native.Nat.{ℕ, zero, suc, ◌+◌, ◌-◌, ◌*◌, ◌/◌, ◌%◌, ◌≤◌, ◌<◌}
 use mathlib.Core.Path.{◌≡◌, refl, ◌∙◌}
 use mathlib.Core.Bool.{Bool, true, false, cond, ◌&&◌}
@@ -9,8 +10,6 @@ use native.Mathlib.Omega.{arith}
 use lib.Dec.{eqb, ltb, leb}
 use lib.ListN.{get_or, length}
 use borrow.Author.Tests.{eqb-true, eqb-false, ltb-true, ltb-false, leb-true, le-leb}
-use Rattle.iff.specs.declared.DayOf.{DayOf}
-use Rattle.iff.specs.declared.DayOf.TheVariants.{Day, NotADay}
 use Rattle.iff.specs.Days.{
   leap_year,
   months,
@@ -168,7 +167,7 @@ pub years_small : (k : ℕ) → k < 8400 → years_before k < 3100000
 years_small k h = omega (arith, counted k)
 
 -- a day's number is small, so that sums with it fit
-pub day_small : (n d : ℕ) → day_of n ≡ Day d → d < 3200000
+pub day_small : (n d : ℕ) → day_of n ≡ Some d → d < 3200000
 unfolding day_of day_is
 day_small n d e =
     go
@@ -190,18 +189,18 @@ day_small n d e =
         → ltb (days_in (m - 1) (leap_year y)) x ≡ g
         → cond
         a
-        NotADay
+        None
         (cond
         b
-        NotADay
+        None
         (cond
         c
-        NotADay
+        None
         (cond
         f
-        NotADay
-        (cond g NotADay (Day (years_before (y - 1600) + days_before (m - 1) (leap_year y) + (x - 1)))))))
-        ≡ Day d
+        None
+        (cond g None (Some (years_before (y - 1600) + days_before (m - 1) (leap_year y) + (x - 1)))))))
+        ≡ Some d
         → d < 3200000
     go x m y h true b c f g p e = let z : ◌≡◌ {A = ℕ} 0 1 = cc in omega arith
     go x m y h false true c f g p e = let z : ◌≡◌ {A = ℕ} 0 1 = cc in omega arith
@@ -222,53 +221,53 @@ pub span_small : (first last : ℕ) → span first last ≤ 3200000
 unfolding span
 span_small first last = go (day_of first) (day_of last) refl
   where
-    go : (a b : DayOf) → day_of last ≡ b → span_of a b ≤ 3200000
-    go (Day a) (Day b) e = omega (arith, day_small last b e)
-    go (Day a) NotADay e = omega arith
-    go NotADay b e = omega arith
+    go : (a b : Option ℕ) → day_of last ≡ b → span_of a b ≤ 3200000
+    go (Some a) (Some b) e = omega (arith, day_small last b e)
+    go (Some a) None e = omega arith
+    go None b e = omega arith
 
 -- a period has a day
 pub period_span : (first last : ℕ) → period first last ≡ true → 0 < span first last
 unfolding period span
 period_span first last = go (day_of first) (day_of last)
   where
-    go : (a b : DayOf) → in_turn a b ≡ true → 0 < span_of a b
-    go (Day a) (Day b) e = omega (arith, leb-true a b e)
-    go (Day a) NotADay e = let z : ◌≡◌ {A = ℕ} 0 1 = cc in omega arith
-    go NotADay b e = let z : ◌≡◌ {A = ℕ} 0 1 = cc in omega arith
+    go : (a b : Option ℕ) → in_turn a b ≡ true → 0 < span_of a b
+    go (Some a) (Some b) e = omega (arith, leb-true a b e)
+    go (Some a) None e = let z : ◌≡◌ {A = ℕ} 0 1 = cc in omega arith
+    go None b e = let z : ◌≡◌ {A = ℕ} 0 1 = cc in omega arith
 
 -- a span has a day only where its first is not after its last
 pub span_period : (first last : ℕ) → 0 < span first last → period first last ≡ true
 unfolding period span
 span_period first last = go (day_of first) (day_of last)
   where
-    go : (a b : DayOf) → 0 < span_of a b → in_turn a b ≡ true
-    go (Day a) (Day b) h = le-leb a b (omega arith)
-    go (Day a) NotADay h = absurd (omega arith)
-    go NotADay b h = absurd (omega arith)
+    go : (a b : Option ℕ) → 0 < span_of a b → in_turn a b ≡ true
+    go (Some a) (Some b) h = le-leb a b (omega arith)
+    go (Some a) None h = absurd (omega arith)
+    go None b h = absurd (omega arith)
 
 -- what lies in a period makes it one
 pub in_period_lem : (first date last : ℕ) → in_period first date last ≡ true → period first last ≡ true
 unfolding in_period period
 in_period_lem first date last = go (day_of first) (day_of date) (day_of last)
   where
-    go : (a d b : DayOf) → within a d b ≡ true → in_turn a b ≡ true
-    go (Day a) (Day d) (Day b) e =
+    go : (a d b : Option ℕ) → within a d b ≡ true → in_turn a b ≡ true
+    go (Some a) (Some d) (Some b) e =
         let h = both (leb a d) (leb d b) e in
         le-leb a b (omega (arith, leb-true a d h.0, leb-true d b h.1))
-    go (Day a) (Day d) NotADay e = e
-    go (Day a) NotADay b e = let z : ◌≡◌ {A = ℕ} 0 1 = cc in absurd (omega arith)
-    go NotADay d b e = e
+    go (Some a) (Some d) None e = e
+    go (Some a) None b e = let z : ◌≡◌ {A = ℕ} 0 1 = cc in absurd (omega arith)
+    go None d b e = e
 
 -- the place of a day in a period is one of the period's places
 pub day_in_span : (first date last : ℕ) → in_period first date last ≡ true → day_in first date < span first last
 unfolding in_period day_in span
 day_in_span first date last = go (day_of first) (day_of date) (day_of last)
   where
-    go : (a d b : DayOf) → within a d b ≡ true → since a d < span_of a b
-    go (Day a) (Day d) (Day b) e =
+    go : (a d b : Option ℕ) → within a d b ≡ true → since a d < span_of a b
+    go (Some a) (Some d) (Some b) e =
         let h = both (leb a d) (leb d b) e in
         omega (arith, leb-true a d h.0, leb-true d b h.1)
-    go (Day a) (Day d) NotADay e = let z : ◌≡◌ {A = ℕ} 0 1 = cc in omega arith
-    go (Day a) NotADay b e = let z : ◌≡◌ {A = ℕ} 0 1 = cc in omega arith
-    go NotADay d b e = let z : ◌≡◌ {A = ℕ} 0 1 = cc in omega arith
+    go (Some a) (Some d) None e = let z : ◌≡◌ {A = ℕ} 0 1 = cc in omega arith
+    go (Some a) None b e = let z : ◌≡◌ {A = ℕ} 0 1 = cc in omega arith
+    go None d b e = let z : ◌≡◌ {A = ℕ} 0 1 = cc in omega arith

@@ -62,50 +62,47 @@ fn wide(x: u32) -> u64
 }
 
 // The day that a number DDMMYYYY names. The day of the month is all that stands before MMYYYY, so a number of nine digits or more is no day.
-pub fn day_of(date: u64) -> iff::DayOf
+pub fn day_of(date: u64) -> Option<u64>
     ensures { result ≡ day_of date }
 {
     let year = date % 10000;
     let month = date / 10000 % 100;
     let day = date / 1000000;
     if year < 1600 {
-        return iff::DayOf::NotADay;
+        return None;
     }
     if month == 0 {
-        return iff::DayOf::NotADay;
+        return None;
     }
     if 12 < month {
-        return iff::DayOf::NotADay;
+        return None;
     }
     if day == 0 {
-        return iff::DayOf::NotADay;
+        return None;
     }
     let leap = is_leap(year);
     let m = (month - 1) as usize;
     if wide(last_day(m, leap)) < day {
-        return iff::DayOf::NotADay;
+        return None;
     }
-    iff::DayOf::Day(days_of_years(year - 1600) + wide(days_before(m, leap)) + (day - 1))
+    Some(days_of_years(year - 1600) + wide(days_before(m, leap)) + (day - 1))
 }
 
 // Whether a number DDMMYYYY names a day at all.
 pub fn is_day(date: u64) -> bool
     ensures { result ≡ is_day (day_of date) }
 {
-    match day_of(date) {
-        iff::DayOf::Day(_) => true,
-        iff::DayOf::NotADay => false,
-    }
+    day_of(date).is_some()
 }
 
 // Two days, the first not after the last.
 pub fn is_period(first: u64, last: u64) -> bool
     ensures { result ≡ period first last }
 {
-    let iff::DayOf::Day(from) = day_of(first) else {
+    let Some(from) = day_of(first) else {
         return false;
     };
-    let iff::DayOf::Day(to) = day_of(last) else {
+    let Some(to) = day_of(last) else {
         return false;
     };
     from <= to
@@ -115,10 +112,10 @@ pub fn is_period(first: u64, last: u64) -> bool
 pub fn span(first: u64, last: u64) -> u64
     ensures { result ≡ span first last }
 {
-    let iff::DayOf::Day(from) = day_of(first) else {
+    let Some(from) = day_of(first) else {
         return 0;
     };
-    let iff::DayOf::Day(to) = day_of(last) else {
+    let Some(to) = day_of(last) else {
         return 0;
     };
     if to < from {
@@ -131,13 +128,13 @@ pub fn span(first: u64, last: u64) -> u64
 pub fn in_period(first: u64, date: u64, last: u64) -> bool
     ensures { result ≡ in_period first date last }
 {
-    let iff::DayOf::Day(from) = day_of(first) else {
+    let Some(from) = day_of(first) else {
         return false;
     };
-    let iff::DayOf::Day(day) = day_of(date) else {
+    let Some(day) = day_of(date) else {
         return false;
     };
-    let iff::DayOf::Day(to) = day_of(last) else {
+    let Some(to) = day_of(last) else {
         return false;
     };
     if day < from {
@@ -150,10 +147,10 @@ pub fn in_period(first: u64, date: u64, last: u64) -> bool
 pub fn day_in(first: u64, date: u64) -> u64
     ensures { result ≡ day_in first date }
 {
-    let iff::DayOf::Day(from) = day_of(first) else {
+    let Some(from) = day_of(first) else {
         return 0;
     };
-    let iff::DayOf::Day(day) = day_of(date) else {
+    let Some(day) = day_of(date) else {
         return 0;
     };
     if day < from {

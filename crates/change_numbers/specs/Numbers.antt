@@ -1,10 +1,11 @@
 -- The answer to a change in plain numbers.
-use Rattle.std.specs.Prelude.{ℕ, List, [], ◌∷◌, ℤ}
+use Rattle.std.specs.Prelude.{ℕ, List, [], ◌∷◌, ℤ, Result}
 use Rattle.iff_desk.specs.Answers.{change_number, Word, verdict, Why, why, gap_shown, source_shown, needed_shown}
 use Rattle.iff_desk.specs.declared.Source.{Source}
 use Rattle.iff_desk.specs.declared.Source.TheVariants.{FromChanges, FromStations, FromXchanges}
 use Rattle.iff_desk.specs.declared.Change.{Change}
 use Rattle.numbers.specs.Numbers.{is_shown, number_or0, minutes_or0}
+use Rattle.iff.specs.declared.Reason.{Reason}
 
 -- seven numbers: the refusal; 1 No, 2 Yes, 3 Unsettled; why a No, in the paper's order; whether a gap was reached; the source;
 -- whether a needed time was reached, and that time
@@ -38,7 +39,7 @@ abbrev pub source_number : List Source → ℕ
 source_number [] = 0
 source_number (s ∷ ss) = source_of s
 
-abbrev pub change_words : Change → List ℕ
+abbrev pub change_words : Result Change Reason → List ℕ
 change_words a =
     change_number a
     ∷ verdict_number (verdict a)
@@ -50,5 +51,5 @@ change_words a =
     ∷ []
 
 -- and the gap, in minutes
-abbrev pub change_gap : Change → List ℤ
+abbrev pub change_gap : Result Change Reason → List ℤ
 change_gap a = minutes_or0 (gap_shown a) ∷ []

@@ -5,6 +5,7 @@ ghost use Rattle.std.specs.Prelude.{◌≡◌};
 ghost use Rattle.iff_desk.specs.Answers.{why_early, why_barred, bar_source};
 ghost use Rattle.change_numbers.specs.Numbers.{why_of, source_of, change_words, change_gap};
 
+use iff::Reason;
 use iff_desk::{Bar, Change, Early, Source};
 
 // The verdict: No, Yes or Unsettled.
@@ -63,32 +64,32 @@ fn source_of_bar(bar: Bar) -> u64
 }
 
 // Seven numbers: the refusal; the verdict; why a No; whether a gap was reached; the source; whether a needed time was reached, and that time.
-pub fn change_words(answer: Change) -> [u64; 7]
+pub fn change_words(answer: Result<Change, Reason>) -> [u64; 7]
     ensures { result ≡ change_words answer }
 {
     match answer {
-        Change::ChangeRefused(reason) => {
+        Err(reason) => {
             let number = numbers::number_of(reason);
             [number, 0, 0, 0, 0, 0, 0]
         }
-        Change::NoBefore(early) => {
+        Ok(Change::NoBefore(early)) => {
             let why = number_of_early(early);
             [0, NO, why, 0, 0, 0, 0]
         }
-        Change::NoBarred(_, bar) => {
+        Ok(Change::NoBarred(_, bar)) => {
             let why = number_of_bar(bar);
             let from = source_of_bar(bar);
             [0, NO, why, 1, from, 0, 0]
         }
-        Change::NoShort(_, source, needed) => {
+        Ok(Change::NoShort(_, source, needed)) => {
             let from = number_of_source(source);
             [0, NO, GAP_BELOW_NEEDED, 1, from, 1, needed]
         }
-        Change::Yes(_, source, needed) => {
+        Ok(Change::Yes(_, source, needed)) => {
             let from = number_of_source(source);
             [0, YES, 0, 1, from, 1, needed]
         }
-        Change::Unsettled(_, source, needed) => {
+        Ok(Change::Unsettled(_, source, needed)) => {
             let from = number_of_source(source);
             [0, UNSETTLED, 0, 1, from, 1, needed]
         }
@@ -96,15 +97,15 @@ pub fn change_words(answer: Change) -> [u64; 7]
 }
 
 // The gap, in minutes.
-pub fn change_gap(answer: Change) -> [i32; 1]
+pub fn change_gap(answer: Result<Change, Reason>) -> [i32; 1]
     ensures { result ≡ change_gap answer }
 {
     match answer {
-        Change::ChangeRefused(_) => [0],
-        Change::NoBefore(_) => [0],
-        Change::NoBarred(gap, _) => [gap],
-        Change::NoShort(gap, _, _) => [gap],
-        Change::Yes(gap, _, _) => [gap],
-        Change::Unsettled(gap, _, _) => [gap],
+        Err(_) => [0],
+        Ok(Change::NoBefore(_)) => [0],
+        Ok(Change::NoBarred(gap, _)) => [gap],
+        Ok(Change::NoShort(gap, _, _)) => [gap],
+        Ok(Change::Yes(gap, _, _)) => [gap],
+        Ok(Change::Unsettled(gap, _, _)) => [gap],
     }
 }

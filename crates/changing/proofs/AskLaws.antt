@@ -1,4 +1,5 @@
 -- The precheck: what it asks of either side, and that dates which pass it are days of validity. Assumes nothing.
+use Rattle.std.specs.Prelude.{Err, Ok}
 use Prim.Native.Nat.{ℕ, ◌≤◌, ◌<◌}
 use mathlib.Core.Path.{◌≡◌, refl, ap, sym, ◌∙◌}
 use mathlib.Core.List.{List}
@@ -7,15 +8,13 @@ use native.Mathlib.Omega.{arith}
 use lib.Dec.{leb, ltb}
 use Rattle.iff.specs.Days.{span, longest}
 use Rattle.iff.specs.Files.{PerFile}
-use Rattle.iff.specs.Refusals.{or_test, first_test, unless}
+use Rattle.iff.specs.Refusals.{or_test, first_test, unless, Test}
 use Rattle.iff.specs.Tables.{Row, row_width, rows_in}
 use Rattle.iff.specs.Words as words
 use Rattle.iff.specs.Words.{stop_count}
 use Rattle.iff.specs.declared.File.TheVariants.{Delivery, Timetbls}
 use Rattle.iff.specs.declared.Reason.{Reason}
 use Rattle.iff.specs.declared.Reason.TheVariants.{NoService, NoStop, NoDate}
-use Rattle.iff.specs.declared.Test.{Test}
-use Rattle.iff.specs.declared.Test.TheVariants.{Passes, Fails}
 use Rattle.iff_rules.specs.Rows.{first_of}
 use Rattle.iff_rules.specs.Legs.{stops_of}
 use Rattle.iff_desk.specs.Store.{group_of, service_rows, is_empty, is_valid, first_day, last_day, day_on}
@@ -51,32 +50,32 @@ stops_first tt b service p g = rw g.rows at (b.stops service)
 
 -- A, then B
 module _ (R : PerFile (List Row)) (A B : Side) where
-  pub from_fails : (r : Reason) → asked_from R A ≡ Fails r → Fails r ≡ precheck R A B
+  pub from_fails : (r : Reason) → asked_from R A ≡ Err r → Err r ≡ precheck R A B
   unfolding precheck
   from_fails r h = rw h
 
-  pub from_passes : asked_from R A ≡ Passes → asked_to R B ≡ precheck R A B
+  pub from_passes : asked_from R A ≡ Ok tt → asked_to R B ≡ precheck R A B
   unfolding precheck
   from_passes h = rw h
 
 -- DAYS
-or_passes : (a b : Test) → or_test a b ≡ Passes → (a ≡ Passes) × (b ≡ Passes)
-or_passes Passes b e = (refl, e)
-or_passes (Fails r) b e = let z : ◌≡◌ {A = ℕ} 0 1 = cc in absurd (omega arith)
+or_passes : (a b : Test) → or_test a b ≡ Ok tt → (a ≡ Ok tt) × (b ≡ Ok tt)
+or_passes (Ok _) b e = (refl, e)
+or_passes (Err r) b e = let z : ◌≡◌ {A = ℕ} 0 1 = cc in absurd (omega arith)
 
-unless_passes : (b : Bool) (r : Reason) → unless b r ≡ Passes → b ≡ true
+unless_passes : (b : Bool) (r : Reason) → unless b r ≡ Ok tt → b ≡ true
 unless_passes true r e = refl
 unless_passes false r e = let z : ◌≡◌ {A = ℕ} 0 1 = cc in absurd (omega arith)
 
-valid_date : (R : PerFile (List Row)) (s : ℕ) (right : Bool) (date : ℕ) → asked R s right date ≡ Passes → is_valid R date ≡ true
+valid_date : (R : PerFile (List Row)) (s : ℕ) (right : Bool) (date : ℕ) → asked R s right date ≡ Ok tt → is_valid R date ≡ true
 unfolding asked first_test
 valid_date R s right date e =
     let service = unless (not (is_empty (service_rows R s))) NoService in
     let stop = unless right NoStop in
     let day = unless (is_valid R date) NoDate in
-    let a = (or_passes service (or_test stop (or_test day Passes)) e).1 in
-    let b = (or_passes stop (or_test day Passes) a).1 in
-    unless_passes (is_valid R date) NoDate (or_passes day Passes b).0
+    let a = (or_passes service (or_test stop (or_test day (Ok tt))) e).1 in
+    let b = (or_passes stop (or_test day (Ok tt)) a).1 in
+    unless_passes (is_valid R date) NoDate (or_passes day (Ok tt) b).0
 
 few_days : (R : PerFile (List Row)) (d : List ℕ) → R.delivery ≡ rows_in Delivery d → FewDays d → (date : ℕ) → is_valid R date ≡ true → day_on R date < longest
 few_days R d e few date h =
@@ -84,7 +83,7 @@ few_days R d e few date h =
     omega (arith, ap (λ (rs : List Row). span (words.first_day (first_of rs)) (words.last_day (first_of rs))) e) in
     omega (arith, day_in_span (first_day R) date (last_day R) h)
 
-pub days_few : (R : PerFile (List Row)) (d : List ℕ) → R.delivery ≡ rows_in Delivery d → FewDays d → (A B : Side) → precheck R A B ≡ Passes
+pub days_few : (R : PerFile (List Row)) (d : List ℕ) → R.delivery ≡ rows_in Delivery d → FewDays d → (A B : Side) → precheck R A B ≡ Ok tt
     → (day_on R A.date < longest) × (day_on R B.date < longest)
 unfolding precheck
 days_few R d e few A B h =

@@ -1,5 +1,5 @@
 -- The tables that a change reads: DELIVERY, TIMEZONE, STATIONS, FOOTNOTE, TIMETBLS, CHANGES, XFOOTNOTE, XCHANGES, in this order.
-use Rattle.std.specs.Prelude.{ℕ, ◌≤◌, ◌≡◌, List, length}
+use Rattle.std.specs.Prelude.{ℕ, ◌≤◌, ◌≡◌, List, length, Option, Some}
 use Rattle.iff.specs.Files.{PerFile}
 use Rattle.iff.specs.Days.{span, longest}
 use Rattle.iff.specs.Tables.{Row, rows_in}
@@ -8,14 +8,12 @@ use Rattle.iff.specs.declared.RowFile.TheVariants.{Stations}
 use Rattle.iff.specs.declared.GroupFile.TheVariants.{Timezone, Footnote, Changes, Xfootnote, Xchanges}
 use Rattle.iff.specs.declared.File.TheVariants.{Delivery, Rows, Groups, Timetbls}
 use Rattle.iff_rules.specs.Rows.{first_of}
-use Rattle.iff_desk.specs.declared.TimeOf.{TimeOf}
-use Rattle.iff_desk.specs.declared.ToldTime.{ToldTime}
-use Rattle.iff_desk.specs.declared.ToldTime.TheVariants.{Told}
 use Rattle.slots.specs.Slots.{Index}
 use Rattle.store.specs.Found.{Stored, BlocksTold}
 use Rattle.zone_times.specs.Clocks.{FewMinutes}
 use Rattle.day_times.specs.Told.{FewHours}
 use Rattle.needed_times.specs.declared.StoreCounts.{StoreCounts}
+use Rattle.iff_desk.specs.declared.Moment.{Moment}
 
 -- ROWS THAT ARE THOSE OF THE LENT TABLES, and of the other files any: what tells the periods, what gives a needed time, and all
 pub record ZoneRows (R : PerFile (List Row)) (d tz st : List ℕ) : Type 0 where
@@ -61,6 +59,6 @@ pub record Ready (n : StoreCounts) (hs d tz st fo tt ch xf xc : List ℕ) : Type
   pub days : FewDays d
 
 -- A TIME that was told, by rows that are those of the tables
-pub record ToldOf (d tz st : List ℕ) (told : PerFile (List Row) → ToldTime) (t : ToldTime) : Type 0 where
+pub record ToldOf (d tz st : List ℕ) (told : PerFile (List Row) → Option (Option Moment)) (t : Option (Option Moment)) : Type 0 where
   pub is : (R : PerFile (List Row)) → ZoneRows R d tz st → t ≡ told R
-  pub few : (x : TimeOf) → t ≡ Told x → FewMinutes x
+  pub few : (x : Option Moment) → t ≡ Some x → FewMinutes x

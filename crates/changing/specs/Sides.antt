@@ -1,9 +1,8 @@
 -- The two sides of a change, as they are found in TIMETBLS, and the first No before a gap.
-use Rattle.std.specs.Prelude.{ℕ, ◌-◌, ◌≡◌, List, [], ◌∷◌, Bool, not, ◌&&◌, eqb, leb}
+use Rattle.std.specs.Prelude.{ℕ, ◌-◌, ◌≡◌, List, [], ◌∷◌, Bool, not, ◌&&◌, eqb, leb, None, Option, Some, Ok, Result}
 use Rattle.iff.specs.Files.{PerFile}
 use Rattle.iff.specs.Tables.{Row, row_width, rows_in}
 use Rattle.iff.specs.Words.{named}
-use Rattle.iff.specs.declared.Test.{Test}
 use Rattle.iff.specs.declared.File.TheVariants.{Timetbls}
 use Rattle.iff_rules.specs.Legs.{stops_of}
 use Rattle.iff_desk.specs.Store.{service_rows, group_of, stop_at, number_on}
@@ -11,8 +10,6 @@ use Rattle.iff_desk.specs.Running.{runs_on, asked, is_leg}
 use Rattle.iff_desk.specs.Stops.{arrival_of, departure_of, may_alight, may_board, told_on}
 use Rattle.iff_desk.specs.Changing.{Side, Hurdle, stop, clear, stop_if, first_hurdle, gap_between, told_test, time_told, after_hurdles, change_after}
 use Rattle.iff_desk.specs.declared.Call.{Call}
-use Rattle.iff_desk.specs.declared.TimeOf.{TimeOf}
-use Rattle.iff_desk.specs.declared.ToldTime.{ToldTime}
 use Rattle.iff_desk.specs.declared.Change.{Change}
 use Rattle.iff_desk.specs.declared.Early.TheVariants.{FromRests, ToRests, StationsDiffer, NobodyAlights, NobodyBoards}
 use Rattle.store.specs.Found.{rows_of, row_or, Inside, RowFor}
@@ -20,8 +17,10 @@ use Rattle.store.specs.declared.Part.{Part}
 use Rattle.needed_times.specs.declared.SideRows.{SideRows}
 use Rattle.needed_times.specs.Needed.{rows_found, verdict_on}
 use Rattle.changing.specs.declared.Visit.{Visit}
-use Rattle.changing.specs.declared.FirstNo.{FirstNo}
-use Rattle.changing.specs.declared.FirstNo.TheVariants.{Stops, Clear}
+use Rattle.iff.specs.Refusals.{Test}
+use Rattle.iff_desk.specs.declared.Early.{Early}
+use Rattle.iff_desk.specs.declared.Moment.{Moment}
+use Rattle.iff.specs.declared.Reason.{Reason}
 
 -- a side as it is asked, in the definition's own words
 abbrev pub side_of : Visit → Side
@@ -43,9 +42,9 @@ pub record SideFor (t : List ℕ) (c : Call) (s : SideRows) : Type 0 where
   pub station : s.station ≡ named (stop_at (rows_found t s) c.stop)
 
 -- THE FIRST NO before a gap
-abbrev pub hurdle_of : FirstNo → Hurdle
-hurdle_of (Stops e) = stop e
-hurdle_of Clear = clear
+abbrev pub hurdle_of : Option Early → Hurdle
+hurdle_of (Some e) = stop e
+hurdle_of None = clear
 
 -- the services run
 abbrev pub run_hurdle : PerFile (List Row) → List Row → List Row → Call → Call → Hurdle
@@ -76,31 +75,31 @@ abbrev pub is_same : Call → Call → Bool
 is_same A B = eqb A.service B.service && eqb A.day B.day
 
 -- A's arrival and B's departure, of their stops' rows at their stations
-abbrev pub arrival_from : PerFile (List Row) → Row → ℕ → Call → ToldTime
+abbrev pub arrival_from : PerFile (List Row) → Row → ℕ → Call → Option (Option Moment)
 arrival_from R a station A = told_on R station (number_on R A.day) (arrival_of a)
 
-abbrev pub departure_to : PerFile (List Row) → Row → ℕ → Call → ToldTime
+abbrev pub departure_to : PerFile (List Row) → Row → ℕ → Call → Option (Option Moment)
 departure_to R b station B = told_on R station (number_on R B.day) (departure_of b)
 
 -- the gap between two times, and the verdict on it
-abbrev pub verdict_by : PerFile (List Row) → List Row → List Row → TimeOf → TimeOf → ℕ → Call → Call → Change
+abbrev pub verdict_by : PerFile (List Row) → List Row → List Row → Option Moment → Option Moment → ℕ → Call → Call → Change
 verdict_by R a_rows b_rows arrival departure station A B =
     verdict_on R (gap_between arrival A.day departure B.day) a_rows b_rows station A B
 
 -- 15 before it, for either time
-abbrev pub judged_on : PerFile (List Row) → List Row → List Row → ToldTime → ToldTime → ℕ → Call → Call → Change
+abbrev pub judged_on : PerFile (List Row) → List Row → List Row → Option (Option Moment) → Option (Option Moment) → ℕ → Call → Call → Result Change Reason
 judged_on R a_rows b_rows arrival departure station A B =
-    change_after (told_test arrival departure) (verdict_by R a_rows b_rows (time_told arrival) (time_told departure) station A B)
+    change_after (told_test arrival departure) (Ok (verdict_by R a_rows b_rows (time_told arrival) (time_told departure) station A B))
 
 -- the core but for the first hurdle, of two services' rows, their stops and the stations there
-unfoldable pub later_of : PerFile (List Row) → List Row → List Row → Row → Row → ℕ → ℕ → Call → Call → Change
+unfoldable pub later_of : PerFile (List Row) → List Row → List Row → Row → Row → ℕ → ℕ → Call → Call → Result Change Reason
 later_of R a_rows b_rows a b station other A B =
     let arrival = arrival_from R a station A in
     let departure = departure_to R b other B in
     after_hurdles (later_hurdle R a_rows b_rows A B) (told_test arrival departure)
     (verdict_by R a_rows b_rows (time_told arrival) (time_told departure) station A B)
 
-abbrev pub later_change : PerFile (List Row) → Call → Call → Change
+abbrev pub later_change : PerFile (List Row) → Call → Call → Result Change Reason
 later_change R A B =
     let a_rows = service_rows R A.service in
     let b_rows = service_rows R B.service in

@@ -4,11 +4,10 @@
 // the answer does not need is not looked for.
 #![tactic(auto)]
 
-ghost use Rattle.std.specs.Prelude.{◌≡◌, List, ◌&&◌, ◌<◌, leb, length};
+ghost use Rattle.std.specs.Prelude.{◌≡◌, List, ◌&&◌, ◌<◌, leb, length, Ok};
 ghost use Rattle.iff.specs.Days.{longest};
 ghost use Rattle.iff.specs.Files.{PerFile};
 ghost use Rattle.iff.specs.Tables.{Row, row_width, rows_in};
-ghost use Rattle.iff.specs.declared.Test.TheVariants.{Passes};
 ghost use Rattle.iff.specs.declared.RowFile.TheVariants.{Stations};
 ghost use Rattle.iff.specs.declared.GroupFile.TheVariants.{Footnote, Changes, Xfootnote, Xchanges};
 ghost use Rattle.iff.specs.declared.File.TheVariants.{Delivery, Rows, Groups, Timetbls};
@@ -22,8 +21,8 @@ ghost use Rattle.changing.specs.Agree.{ZoneRows, NeedRows, RowsOf, ZonesReady, N
 ghost use Rattle.changing.specs.Sides.{PartFor, SideFor, side_of, stop_found, hurdle_of, run_hurdle, stop_hurdle, later_hurdle, is_same};
 ghost use Rattle.changing.specs.Sides.{arrival_from, departure_to, verdict_by, judged_on, later_change, asked_from, asked_to};
 
-use iff::{DayOf, Reason, Test, words};
-use iff_desk::{Call, Change, Early, TimeOf, ToldTime};
+use iff::{Reason, Test, words};
+use iff_desk::{Call, Change, Early};
 use needed_times::{SideRows, StoreCounts};
 use store::Part;
 
@@ -33,13 +32,6 @@ pub struct Visit {
     pub service: u64,
     pub stop: u64,
     pub date: u64,
-}
-
-// The first No before a gap, or none.
-#[derive(Clone, Copy)]
-pub enum FirstNo {
-    Stops(Early),
-    Clear,
 }
 
 // SIDES
@@ -73,24 +65,29 @@ fn number_on(delivery: &[u64], used: usize, day: u64) -> u64
     ensures { ((R : PerFile (List Row)) → R.delivery ≡ rows_in Delivery delivery.now → result ≡ number_on R day) × (result < 4000000) }
 {
     match calendar::day_of(store::first_word(delivery, used, words::FIRST_DAY)) {
-        DayOf::Day(first) => first + day,
-        DayOf::NotADay => day,
+        Some(first) => first + day,
+        None => day,
     }
 }
 
 // THE GAP
 
 // From an arrival to a departure, each on its day, where both are times.
-fn gap_of(arrival: TimeOf, arrival_day: u64, departure: TimeOf, departure_day: u64) -> i32
+fn gap_of(
+    arrival: Option<iff_desk::Moment>,
+    arrival_day: u64,
+    departure: Option<iff_desk::Moment>,
+    departure_day: u64,
+) -> i32
     requires { FewMinutes arrival × FewMinutes departure × (arrival_day < longest) × (departure_day < longest) }
     ensures { result ≡ gap_between arrival arrival_day departure departure_day }
 {
     match arrival {
-        TimeOf::At(_, from) => match departure {
-            TimeOf::At(_, to) => clock::gap(from, arrival_day, to, departure_day),
-            TimeOf::NoTime => 0,
+        Some(from) => match departure {
+            Some(to) => clock::gap(from.reference, arrival_day, to.reference, departure_day),
+            None => 0,
         },
-        TimeOf::NoTime => 0,
+        None => 0,
     }
 }
 
@@ -116,7 +113,7 @@ fn run_hurdle(
     b: SideRows,
     from: Call,
     to: Call,
-) -> FirstNo
+) -> Option<iff_desk::Early>
     requires { Stored (Groups Footnote) used footnotes.now
         × Inside (row_width Timetbls) timetbls.now a.part
         × Inside (row_width Timetbls) timetbls.now b.part }
@@ -126,35 +123,41 @@ fn run_hurdle(
 {
     let leg = needed_times::leg_before(from.stop);
     if !running::runs_on(timetbls, a.part, footnotes, used, places, leg, from.day) {
-        return FirstNo::Stops(Early::FromRests);
+        return Some(Early::FromRests);
     }
     if !running::runs_on(timetbls, b.part, footnotes, used, places, to.stop, to.day) {
-        return FirstNo::Stops(Early::ToRests);
+        return Some(Early::ToRests);
     }
-    FirstNo::Clear
+    None
 }
 
 // They stop at one station, and somebody alights there and boards.
-fn stop_hurdle(timetbls: &[u64], a: SideRows, b: SideRows, from: Call, to: Call) -> FirstNo
+fn stop_hurdle(
+    timetbls: &[u64],
+    a: SideRows,
+    b: SideRows,
+    from: Call,
+    to: Call,
+) -> Option<iff_desk::Early>
     requires { SideFor timetbls.now from a × SideFor timetbls.now to b }
     ensures { (R : PerFile (List Row))
         → hurdle_of result ≡ stop_hurdle R (rows_found timetbls.now a) (rows_found timetbls.now b) from to }
 {
     if a.station != b.station {
-        return FirstNo::Stops(Early::StationsDiffer);
+        return Some(Early::StationsDiffer);
     }
     let alight = a.row;
     if !written_times::may_alight(timetbls, alight) {
-        return FirstNo::Stops(Early::NobodyAlights);
+        return Some(Early::NobodyAlights);
     }
     let board = b.row;
     if !written_times::may_board(timetbls, board) {
-        return FirstNo::Stops(Early::NobodyBoards);
+        return Some(Early::NobodyBoards);
     }
-    FirstNo::Clear
+    None
 }
 
-// The first No of those that ask for the services' rows.
+// The first No of those that ask for the services' rows, if there is one.
 fn later_hurdle(
     footnotes: &[u64],
     timetbls: &[u64],
@@ -164,7 +167,7 @@ fn later_hurdle(
     b: SideRows,
     from: Call,
     to: Call,
-) -> FirstNo
+) -> Option<iff_desk::Early>
     requires { Stored (Groups Footnote) used footnotes.now
         × SideFor timetbls.now from a
         × SideFor timetbls.now to b }
@@ -173,8 +176,8 @@ fn later_hurdle(
         → hurdle_of result ≡ later_hurdle R (rows_found timetbls.now a) (rows_found timetbls.now b) from to }
 {
     match run_hurdle(footnotes, timetbls, places, used, a, b, from, to) {
-        FirstNo::Stops(early) => FirstNo::Stops(early),
-        FirstNo::Clear => stop_hurdle(timetbls, a, b, from, to),
+        Some(early) => Some(early),
+        None => stop_hurdle(timetbls, a, b, from, to),
     }
 }
 
@@ -190,8 +193,8 @@ fn weighed(
     places: &[u32],
     heads: &[u32],
     counts: StoreCounts,
-    arrival: TimeOf,
-    departure: TimeOf,
+    arrival: Option<iff_desk::Moment>,
+    departure: Option<iff_desk::Moment>,
     a: SideRows,
     b: SideRows,
     from: Call,
@@ -240,7 +243,7 @@ fn judged(
     b: SideRows,
     from: Call,
     to: Call,
-) -> Change
+) -> Result<Change, Reason>
     requires { ZonesReady counts delivery.now zones.now stations.now
         × NeedReady counts heads.now changes.now xfootnotes.now xchanges.now
         × SideFor timetbls.now from a
@@ -257,7 +260,7 @@ fn judged(
 {
     let alight_number = number_on(delivery, counts.delivery, from.day);
     let alight = a.row;
-    let ToldTime::Told(arrival) = day_times::arrival_on(
+    let Some(arrival) = day_times::arrival_on(
         timetbls,
         alight,
         zones,
@@ -269,11 +272,11 @@ fn judged(
         a.station,
         alight_number,
     ) else {
-        return Change::ChangeRefused(Reason::NoPeriod);
+        return Err(Reason::NoPeriod);
     };
     let board_number = number_on(delivery, counts.delivery, to.day);
     let board = b.row;
-    let ToldTime::Told(departure) = day_times::departure_on(
+    let Some(departure) = day_times::departure_on(
         timetbls,
         board,
         zones,
@@ -285,12 +288,12 @@ fn judged(
         b.station,
         board_number,
     ) else {
-        return Change::ChangeRefused(Reason::NoPeriod);
+        return Err(Reason::NoPeriod);
     };
-    weighed(
+    Ok(weighed(
         stations, timetbls, changes, xfootnotes, xchanges, places, heads, counts, arrival,
         departure, a, b, from, to,
-    )
+    ))
 }
 
 // Where it is not one service on one day: the stops are found, then the other hurdles, then the verdict.
@@ -310,7 +313,7 @@ fn later_change(
     b_part: Part,
     from: Call,
     to: Call,
-) -> Change
+) -> Result<Change, Reason>
     requires { Ready counts heads.now delivery.now zones.now stations.now footnotes.now timetbls.now changes.now xfootnotes.now
         xchanges.now
         × (from.day < longest)
@@ -325,8 +328,8 @@ fn later_change(
     let a = find_side(timetbls, a_part, from);
     let b = find_side(timetbls, b_part, to);
     match later_hurdle(footnotes, timetbls, places, counts.footnote, a, b, from, to) {
-        FirstNo::Stops(early) => Change::NoBefore(early),
-        FirstNo::Clear => judged(
+        Some(early) => Ok(Change::NoBefore(early)),
+        None => judged(
             delivery, zones, stations, timetbls, changes, xfootnotes, xchanges, places, heads,
             counts, a, b, from, to,
         ),
@@ -350,7 +353,7 @@ pub fn core_change(
     b_part: Part,
     from: Call,
     to: Call,
-) -> Change
+) -> Result<Change, Reason>
     requires { Ready counts heads.now delivery.now zones.now stations.now footnotes.now timetbls.now changes.now xfootnotes.now
         xchanges.now
         × (from.day < longest)
@@ -363,7 +366,7 @@ pub fn core_change(
         → result ≡ core_change R from to }
 {
     if is_same(from, to) {
-        return Change::NoBefore(Early::SameService);
+        return Ok(Change::NoBefore(Early::SameService));
     }
     later_change(
         delivery, zones, stations, footnotes, timetbls, changes, xfootnotes, xchanges, places,
@@ -456,31 +459,27 @@ fn change_to(
     a_part: Part,
     from: Visit,
     to: Visit,
-) -> Change
+) -> Result<Change, Reason>
     requires { Ready counts heads.now delivery.now zones.now stations.now footnotes.now timetbls.now changes.now xfootnotes.now
         xchanges.now
         × PartFor timetbls.now from.service a_part
         × ((R : PerFile (List Row))
         → R.delivery ≡ rows_in Delivery delivery.now
         → R.timetbls ≡ rows_in Timetbls timetbls.now
-        → asked_from R (side_of from) ≡ Passes) }
+        → asked_from R (side_of from) ≡ Ok tt) }
     ensures { (R : PerFile (List Row))
         → RowsOf R delivery.now zones.now stations.now footnotes.now timetbls.now
         changes.now xfootnotes.now xchanges.now
         → result ≡ change_after (precheck_of R (side_of from) (side_of to)) (core_change R (call_of R (side_of from)) (call_of R (side_of to))) }
 {
     let b_part = find_part(timetbls, counts.timetbls, service_places, to.service);
-    match to_part(delivery, counts.delivery, timetbls, b_part, to) {
-        Test::Fails(reason) => Change::ChangeRefused(reason),
-        Test::Passes => {
-            let a = call_of(delivery, counts.delivery, from);
-            let b = call_of(delivery, counts.delivery, to);
-            core_change(
-                delivery, zones, stations, footnotes, timetbls, changes, xfootnotes, xchanges,
-                places, heads, counts, a_part, b_part, a, b,
-            )
-        }
-    }
+    to_part(delivery, counts.delivery, timetbls, b_part, to)?;
+    let a = call_of(delivery, counts.delivery, from);
+    let b = call_of(delivery, counts.delivery, to);
+    core_change(
+        delivery, zones, stations, footnotes, timetbls, changes, xfootnotes, xchanges, places,
+        heads, counts, a_part, b_part, a, b,
+    )
 }
 
 // A change, on tables that were found sound: 12, 13, 14 for A, then for B, then the core. Either service is looked for once.
@@ -499,7 +498,7 @@ pub fn change_in(
     counts: StoreCounts,
     from: Visit,
     to: Visit,
-) -> Change
+) -> Result<Change, Reason>
     requires { Ready counts heads.now delivery.now zones.now stations.now footnotes.now timetbls.now changes.now xfootnotes.now
         xchanges.now }
     ensures { (R : PerFile (List Row))
@@ -508,24 +507,22 @@ pub fn change_in(
         → result ≡ change_after (precheck_of R (side_of from) (side_of to)) (core_change R (call_of R (side_of from)) (call_of R (side_of to))) }
 {
     let a_part = find_part(timetbls, counts.timetbls, service_places, from.service);
-    match from_part(delivery, counts.delivery, timetbls, a_part, from) {
-        Test::Fails(reason) => Change::ChangeRefused(reason),
-        Test::Passes => change_to(
-            delivery,
-            zones,
-            stations,
-            footnotes,
-            timetbls,
-            changes,
-            xfootnotes,
-            xchanges,
-            service_places,
-            places,
-            heads,
-            counts,
-            a_part,
-            from,
-            to,
-        ),
-    }
+    from_part(delivery, counts.delivery, timetbls, a_part, from)?;
+    change_to(
+        delivery,
+        zones,
+        stations,
+        footnotes,
+        timetbls,
+        changes,
+        xfootnotes,
+        xchanges,
+        service_places,
+        places,
+        heads,
+        counts,
+        a_part,
+        from,
+        to,
+    )
 }

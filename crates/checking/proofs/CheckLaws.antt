@@ -1,4 +1,5 @@
 -- What the check program says, from the verdict over sizes and from the load's answer. Assumes nothing.
+use Rattle.std.specs.Prelude.{Ok, Option}
 use Prim.Native.Nat.{ℕ, suc}
 use mathlib.Core.Path.{◌≡◌}
 use mathlib.Core.List.{List}
@@ -8,22 +9,20 @@ use Rattle.iff.specs.declared.GroupFile.TheVariants.{Timezone, Footnote, Changes
 use Rattle.iff.specs.declared.File.{File}
 use Rattle.iff.specs.declared.File.TheVariants.{Delivery, Rows, Groups, Timetbls}
 use Rattle.iff.specs.declared.Reason.{Reason}
-use Rattle.iff.specs.declared.Place.{Place}
-use Rattle.iff.specs.declared.Verdict.{Verdict}
-use Rattle.iff.specs.declared.Verdict.TheVariants.{Fine, Fault}
-use Rattle.iff.specs.declared.Answer.{Answer}
 use Rattle.text_puts.specs.Texts.{Appended}
 use Rattle.reports.specs.Report.{report_line}
 use Rattle.reports.specs.declared.Report.{Report}
 use Rattle.reports.specs.declared.Report.TheVariants.{Larger, Answered}
 use Rattle.folders.specs.Reads.{ReadAs}
 use Rattle.checking.specs.Check.{most_bytes, report_of}
+use Rattle.iff.specs.Refusals.{Answer, Verdict, fault_at}
+use Rattle.iff.specs.declared.Place.{Place}
 
-pub larger_is : {v w : Verdict} (a : Answer) (r : Reason) (p : Place) → v ≡ w → v ≡ Fault r p → Larger p ≡ report_of w a
+pub larger_is : {v w : Verdict} (a : Answer) (r : Reason) (p : Option Place) → v ≡ w → v ≡ fault_at r p → Larger p ≡ report_of w a
 unfolding report_of
 larger_is a r p e g = rw (← e, g)
 
-pub answer_is : {v w : Verdict} {x a : Answer} → v ≡ w → v ≡ Fine → x ≡ a → Answered x ≡ report_of w a
+pub answer_is : {v w : Verdict} {x a : Answer} → v ≡ w → v ≡ Ok tt → x ≡ a → Answered x ≡ report_of w a
 unfolding report_of
 answer_is e g h = rw (← e, g, h)
 

@@ -9,7 +9,7 @@ ghost use Rattle.reports.specs.Report.{report_line};
 ghost use Rattle.checking.specs.Check.{room_for64, checked, FolderChecked};
 
 use folders::read_named;
-use iff::{Answer, File, GroupFile, RowFile, Verdict};
+use iff::{Answer, File, GroupFile, RowFile};
 use reports::Report;
 use std::fs;
 use std::fs::Files;
@@ -119,8 +119,8 @@ fn check(
         xchanges.len(),
     );
     match sizes {
-        Verdict::Fault(_, place) => Report::Larger(place),
-        Verdict::Fine => Report::Answered(load_small(
+        Err(fault) => Report::Larger(fault.place),
+        Ok(()) => Report::Answered(load_small(
             delivery, company, country, trnsmode, timezone, stations, footnote, timetbls, changes,
             xfootnote, xchanges,
         )),

@@ -86,12 +86,10 @@ pub fn fresh_in_group(file: GroupFile, t: &[u64], from: usize, to: usize, row: &
     ensures { result ≡ not (any (clash file row.now) (rows_between (row_width (Groups file)) t.now from to)) }
 {
     let w = tables::row_width(iff::File::Groups(file));
-    let mut i = from;
-    while i < to {
+    for i in from..to {
         if clashes_at(file, t, w, i, row) {
             return false;
         }
-        i += 1;
     }
     true
 }

@@ -1,21 +1,21 @@
 -- The tables after the verdict. Assumes nothing.
+use Rattle.std.specs.Prelude.{Ok, Option}
 use Prim.Native.Nat.{ℕ}
 use mathlib.Core.Path.{◌≡◌}
 use mathlib.Core.List.{List}
 use lib.ListN.{length, replicate}
 use Rattle.iff.specs.declared.Reason.{Reason}
-use Rattle.iff.specs.declared.Place.{Place}
-use Rattle.iff.specs.declared.Verdict.{Verdict}
-use Rattle.iff.specs.declared.Verdict.TheVariants.{Fine, Fault}
 use Rattle.clearing.specs.Cleared.{Cleared, settled, Settled}
+use Rattle.iff.specs.Refusals.{Verdict, fault_at}
+use Rattle.iff.specs.declared.Place.{Place}
 
-stays : (v : Verdict) (t : List ℕ) → v ≡ Fine → t ≡ settled v t
+stays : (v : Verdict) (t : List ℕ) → v ≡ Ok tt → t ≡ settled v t
 stays v t e = rw e
 
-goes_out : (v : Verdict) (k : Reason) (p : Place) (t u : List ℕ) → v ≡ Fault k p → u ≡ replicate (length t) 0 → u ≡ settled v t
+goes_out : (v : Verdict) (k : Reason) (p : Option Place) (t u : List ℕ) → v ≡ fault_at k p → u ≡ replicate (length t) 0 → u ≡ settled v t
 goes_out v k p t u e h = rw e h
 
-pub all_stay : (v : Verdict) (t1 t2 t3 t4 t5 t6 t7 t8 t9 t10 t11 : List ℕ) → v ≡ Fine
+pub all_stay : (v : Verdict) (t1 t2 t3 t4 t5 t6 t7 t8 t9 t10 t11 : List ℕ) → v ≡ Ok tt
     → Settled v t1 t2 t3 t4 t5 t6 t7 t8 t9 t10 t11 t1 t2 t3 t4 t5 t6 t7 t8 t9 t10 t11
 all_stay v t1 t2 t3 t4 t5 t6 t7 t8 t9 t10 t11 e =
     record {
@@ -32,8 +32,8 @@ all_stay v t1 t2 t3 t4 t5 t6 t7 t8 t9 t10 t11 e =
       s11 = stays v t11 e;
     }
 
-pub all_go : (v : Verdict) (k : Reason) (p : Place) (t1 t2 t3 t4 t5 t6 t7 t8 t9 t10 t11 u1 u2 u3 u4 u5 u6 u7 u8 u9 u10 u11 : List ℕ)
-    → v ≡ Fault k p
+pub all_go : (v : Verdict) (k : Reason) (p : Option Place) (t1 t2 t3 t4 t5 t6 t7 t8 t9 t10 t11 u1 u2 u3 u4 u5 u6 u7 u8 u9 u10 u11 : List ℕ)
+    → v ≡ fault_at k p
     → Cleared t1 t2 t3 t4 t5 t6 t7 t8 t9 t10 t11 u1 u2 u3 u4 u5 u6 u7 u8 u9 u10 u11
     → Settled v t1 t2 t3 t4 t5 t6 t7 t8 t9 t10 t11 u1 u2 u3 u4 u5 u6 u7 u8 u9 u10 u11
 all_go v k p t1 t2 t3 t4 t5 t6 t7 t8 t9 t10 t11 u1 u2 u3 u4 u5 u6 u7 u8 u9 u10 u11 e h =

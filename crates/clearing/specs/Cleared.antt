@@ -1,7 +1,6 @@
 -- Tables that are cleared.
-use Rattle.std.specs.Prelude.{ℕ, ◌≡◌, List, length, replicate}
-use Rattle.iff.specs.declared.Verdict.{Verdict}
-use Rattle.iff.specs.declared.Verdict.TheVariants.{Fine, Fault}
+use Rattle.std.specs.Prelude.{ℕ, ◌≡◌, List, length, replicate, Err, Ok}
+use Rattle.iff.specs.Refusals.{Verdict}
 
 -- in groups: five, six, and all
 pub record Cleared5 (t1 t2 t3 t4 t5 u1 u2 u3 u4 u5 : List ℕ) : Type 0 where
@@ -34,8 +33,8 @@ pub record Cleared (t1 t2 t3 t4 t5 t6 t7 t8 t9 t10 t11 u1 u2 u3 u4 u5 u6 u7 u8 u
 
 -- a table after the verdict: as it was read, or all zero
 abbrev pub settled : Verdict → List ℕ → List ℕ
-settled Fine t = t
-settled (Fault r p) t = replicate (length t) 0
+settled (Ok _) t = t
+settled (Err fault) t = replicate (length t) 0
 
 pub record Settled (v : Verdict) (t1 t2 t3 t4 t5 t6 t7 t8 t9 t10 t11 u1 u2 u3 u4 u5 u6 u7 u8 u9 u10 u11 : List ℕ) : Type 0 where
   pub s1 : u1 ≡ settled v t1

@@ -82,8 +82,8 @@ pub fn settle(
         t8.new t9.new t10.new t11.new }
 {
     match v {
-        Verdict::Fine => {}
-        Verdict::Fault(_, _) => {
+        Ok(()) => {}
+        Err(_) => {
             clear_all(t1, t2, t3, t4, t5, t6, t7, t8, t9, t10, t11);
         }
     }

@@ -1,5 +1,6 @@
 -- Laws of minutes: how far from 0 a sum and a difference can be, that a signed local holds what was put into it, and that a time's minutes are few.
 -- Assumes nothing.
+use Rattle.std.specs.Prelude.{None, Some}
 use Prim.Native.Nat.{ℕ, zero, suc, ◌+◌, ◌-◌, ◌*◌, ◌/◌, ◌%◌, ◌^◌, ◌≤◌, ◌<◌}
 use mathlib.Core.Path.{◌≡◌, refl, ◌∙◌}
 use mathlib.Core.Bool.{Bool, true, false, cond, ◌&&◌}
@@ -11,18 +12,17 @@ use borrow.Author.Tests.{lt-ltb, ltb-true}
 use mir.Syntax.{w32}
 use mir.Val.{SFits, to_z, of_z}
 use mir.Facts.{to_z-of_z}
-use Rattle.iff.specs.declared.MinutesOf.TheVariants.{Minutes, NoMinutes}
 use Rattle.iff.specs.Times.{is_time, minutes_of}
 
 -- 99 hours and 59 minutes are 5999
-pub minutes_small : (t m : ℕ) → minutes_of t ≡ Minutes m → m < 6000
+pub minutes_small : (t m : ℕ) → minutes_of t ≡ Some m → m < 6000
 unfolding minutes_of is_time
 minutes_small t m = go (ltb t 10000) refl
   where
-    go : (b : Bool) → ltb t 10000 ≡ b → cond (b && ltb (t % 100) 60) (Minutes (t / 100 * 60 + t % 100)) NoMinutes ≡ Minutes m → m < 6000
+    go : (b : Bool) → ltb t 10000 ≡ b → cond (b && ltb (t % 100) 60) (Some (t / 100 * 60 + t % 100)) None ≡ Some m → m < 6000
     go true p e = within (ltb (t % 100) 60) refl e
       where
-        within : (b : Bool) → ltb (t % 100) 60 ≡ b → cond b (Minutes (t / 100 * 60 + t % 100)) NoMinutes ≡ Minutes m → m < 6000
+        within : (b : Bool) → ltb (t % 100) 60 ≡ b → cond b (Some (t / 100 * 60 + t % 100)) None ≡ Some m → m < 6000
         within true q e =
             let z : t / 100 * 60 + t % 100 ≡ m = cc in
             omega (arith, ltb-true t 10000 p, ltb-true (t % 100) 60 q)

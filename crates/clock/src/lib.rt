@@ -20,13 +20,13 @@ pub fn is_time(t: u64) -> bool
 }
 
 // A time's minutes from the start of its day; what is no time, 9999 among it, has none.
-pub fn minutes_of(t: u64) -> iff::MinutesOf
+pub fn minutes_of(t: u64) -> Option<u64>
     ensures { result ≡ minutes_of t }
 {
     if is_time(t) {
-        return iff::MinutesOf::Minutes(t / 100 * 60 + t % 100);
+        return Some(t / 100 * 60 + t % 100);
     }
-    iff::MinutesOf::NoMinutes
+    None
 }
 
 // A company's day turn: a time within one day.

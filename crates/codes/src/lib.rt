@@ -9,7 +9,7 @@ ghost use Rattle.iff.specs.Values.{code_right};
 fn still_blank(blank: bool, byte: u8) -> bool
     ensures { result ≡ (blank && eqb blank_byte byte) }
 {
-    if blank { b' ' == byte } else { false }
+    blank && byte == b' '
 }
 
 // A code's bytes are allowed and not all blank. The last stands lowest and is read first; what is left after as many as there are columns is none.
@@ -17,16 +17,14 @@ pub fn is_code(word: u64, width: usize) -> bool
     ensures { result ≡ code_right width word }
 {
     let mut left = word;
-    let mut columns = width;
     let mut blank = true;
-    while 0 < columns {
+    for _ in 0..width {
         let byte = (left % 256) as u8;
         if !text::is_allowed(byte) {
             return false;
         }
         blank = still_blank(blank, byte);
         left = left / 256;
-        columns -= 1;
     }
     if left != 0 {
         return false;

@@ -1,42 +1,30 @@
--- Laws of a word of marks, halved bit by bit, and of a vector's words. Assumes nothing.
+-- Laws of a word of marks, and of a vector's words. Assumes nothing.
 use Prim.Native.Nat.{ℕ, suc, ◌+◌, ◌-◌, ◌/◌, ◌^◌, ◌≤◌, ◌<◌}
-use mathlib.Core.Path.{◌≡◌, refl, ap, sym, ◌∙◌}
+use mathlib.Core.Path.{◌≡◌, refl, sym, ◌∙◌}
 use mathlib.Core.List.{List}
-use mathlib.Core.Bool.{true, false, ◌&&◌}
-use native.Mathlib.Nat.{add-zero}
+use mathlib.Core.Bool.{Bool, true, false, ◌&&◌}
+use native.Mathlib.Nat.{add-zero, div-lt_iff_lt-mul, le-div_iff_mul-le}
 use native.Mathlib.Omega.{arith}
-use lib.Dec.{eqb, ltb, lit<}
-use lib.ListN.{get_or, drop}
-use lib.Seq.{get_or-drop, drop-drop}
-use borrow.Author.Tests.{lt-ltb, eq-eqb, ne_eqb, le-leb, lt-leb}
+use lib.Dec.{eqb, ltb}
+use lib.ListN.{length, get_or, take, drop, length-drop}
+use lib.Seq.{get_or-take, get_or-drop, drop-drop, length-take-le}
+use borrow.Author.Tests.{lt-ltb, eq-eqb, ne_eqb, le-leb, lt-leb, ltb-true, ltb-false}
+use Rattle.std.proofs.lemmas.Nat.{pow_pos}
 use Rattle.iff.specs.Values.{word_at, vector_right, vector_width}
-use Rattle.codes.proofs.CodeLaws.{below_step, below_end}
 use Rattle.day_marks.specs.Marks.{marks_fit}
 
 -- MARKS: a word below a power of two
-pub record Halving (word days left marks : ℕ) : Type 0 where
-  pub whole : ltb word (2 ^ days) ≡ ltb left (2 ^ marks)
-
-pub halve_begin : (word days : ℕ) → Halving word days word days
-halve_begin word days = record { whole = refl }
-
-pub halve_on : (word days left marks : ℕ) → Halving word days left marks → 0 < marks → Halving word days (left / 2) (marks - 1)
-halve_on word days left marks l h =
-    let n : marks ≡ suc (marks - 1) = omega arith in
-    record { whole = l.whole ∙ ap (λ (k : ℕ). ltb left (2 ^ k)) n ∙ below_step 2 left (marks - 1) (lit< tt) }
-
-module _ (word days left marks : ℕ) (l : Halving word days left marks) (h : marks ≤ 0) (d : days < 64) where
-  halved : marks_fit word days ≡ eqb left 0
-  unfolding marks_fit
-  halved =
-      let n : marks ≡ 0 = omega arith in
-      rw (lt-leb 64 days d) (l.whole ∙ ap (λ (k : ℕ). ltb left (2 ^ k)) n ∙ below_end 2 left)
-
-  pub halve_long : (left ≡ 0 → ⊥) → false ≡ marks_fit word days
-  halve_long e = sym (halved ∙ ne_eqb left 0 e)
-
-  pub halve_end : left ≡ 0 → true ≡ marks_fit word days
-  halve_end e = sym (halved ∙ eq-eqb left 0 e)
+pub few_days : (word days : ℕ) → days < 64 → eqb (word / 2 ^ days) 0 ≡ marks_fit word days
+unfolding marks_fit
+few_days word days d = rw (lt-leb 64 days d) (go (ltb word (2 ^ days)) refl)
+  where
+    go : (t : Bool) → ltb word (2 ^ days) ≡ t → eqb (word / 2 ^ days) 0 ≡ t
+    go true e =
+        let l : word / 2 ^ days < 1 = (div-lt_iff_lt-mul (pow_pos days)).1 (omega (arith, ltb-true word (2 ^ days) e)) in
+        eq-eqb _ _ (omega arith)
+    go false e =
+        let l : 1 ≤ word / 2 ^ days = (le-div_iff_mul-le (pow_pos days)).1 (omega (arith, ltb-false word (2 ^ days) e)) in
+        ne_eqb _ _ (λ z. omega arith)
 
 pub all_days : (word days : ℕ) → word < 2 ^ 64 → 64 ≤ days → true ≡ marks_fit word days
 unfolding marks_fit
@@ -46,6 +34,15 @@ all_days word days b h = rw (le-leb 64 days h) (sym (lt-ltb word (2 ^ 64) b))
 pub record Reading (row : List ℕ) (days left i : ℕ) : Type 0 where
   pub few : i ≤ vector_width
   pub whole : vector_right vector_width days (drop 1 row) ≡ vector_right (vector_width - i) left (drop (i + 1) row)
+
+-- the words from the second on, as many as a vector has
+word_behind : (row : List ℕ) (i : ℕ) → i < vector_width → get_or (take vector_width (drop 1 row)) i 0 ≡ get_or row (i + 1) 0
+word_behind row i h =
+    let n : 1 + i ≡ i + 1 = omega arith in
+    get_or-take vector_width (drop 1 row) i 0 h ∙ rw n at (get_or-drop 1 row i 0)
+
+pub words_behind : (row : List ℕ) → vector_width < length row → length (take vector_width (drop 1 row)) ≡ vector_width
+words_behind row h = length-take-le vector_width (drop 1 row) (rw length-drop (omega arith))
 
 pub read_begin : (row : List ℕ) (days : ℕ) → Reading row days days 0
 read_begin row days = record { few = omega arith; whole = refl }
@@ -66,11 +63,11 @@ module _ (row : List ℕ) (days left i : ℕ) (l : Reading row days left i) wher
         let n : vector_width - i ≡ suc (vector_width - (i + 1)) = omega arith in
         rw (n, vector_step, get_or-drop, add-zero, drop-drop)
 
-    pub read_fails : marks_fit (get_or row (i + 1) 0) left ≡ false → false ≡ vector_right vector_width days (drop 1 row)
-    read_fails e = sym (l.whole ∙ marks_step ∙ rw e)
+    pub read_fails : marks_fit (get_or (take vector_width (drop 1 row)) i 0) left ≡ false → false ≡ vector_right vector_width days (drop 1 row)
+    read_fails e = sym (l.whole ∙ marks_step ∙ rw (rw (word_behind row i h) at e))
 
-    pub read_on : marks_fit (get_or row (i + 1) 0) left ≡ true → (next : ℕ) → next ≡ left - 64 → Reading row days next (i + 1)
-    read_on e next q = record { few = omega arith; whole = l.whole ∙ marks_step ∙ rw (e, q) }
+    pub read_on : marks_fit (get_or (take vector_width (drop 1 row)) i 0) left ≡ true → (next : ℕ) → next ≡ left - 64 → Reading row days next (i + 1)
+    read_on e next q = record { few = omega arith; whole = l.whole ∙ marks_step ∙ rw (rw (word_behind row i h) at e, q) }
 
   pub read_end : vector_width ≤ i → true ≡ vector_right vector_width days (drop 1 row)
   read_end h =

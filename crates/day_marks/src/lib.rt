@@ -12,23 +12,14 @@ fn fits_days(word: u64, days: usize) -> bool
     if 64 <= days {
         return true;
     }
-    let mut rest = word;
-    let mut marks = days;
-    while 0 < marks {
-        rest = rest / 2;
-        marks -= 1;
-    }
-    if rest != 0 {
-        return false;
-    }
-    true
+    word >> days == 0
 }
 
 // The days that are left after a word of marks.
 fn days_behind(days: usize) -> usize
     ensures { result ≡ days - 64 }
 {
-    if days < 64 { 0 } else { days - 64 }
+    days.saturating_sub(64)
 }
 
 // The words behind the tag are a vector's over so many days.
@@ -37,14 +28,11 @@ pub fn are_marks_right(row: &[u64], days: usize) -> bool
     ensures { result ≡ vector_right vector_width days (drop 1 row.now) }
 {
     let mut left = days;
-    let mut i: usize = 0;
-    while i < iff::limits::MARK_WORDS {
-        let k = i + 1;
-        if !fits_days(row[k], left) {
+    for word in &row[1..=iff::limits::MARK_WORDS] {
+        if !fits_days(*word, left) {
             return false;
         }
         left = days_behind(left);
-        i = k;
     }
     true
 }

@@ -13,8 +13,7 @@ ghost use Rattle.iff_desk.specs.Stops.{arrival_of, departure_of, days_later, tol
 ghost use Rattle.store.specs.Found.{Stored, row_or, Stands, RowFor};
 ghost use Rattle.day_times.specs.Told.{FewHours, ToldFrom};
 
-use iff::{MinutesOf, RowOf, words};
-use iff_desk::ToldTime;
+use iff::words;
 
 // The number of the day that a time falls on, by that of its service day. No time has no day of its own.
 fn own_day(number: u64, time: u64) -> u64
@@ -22,8 +21,8 @@ fn own_day(number: u64, time: u64) -> u64
     ensures { result ≡ number + days_later (minutes_of time) }
 {
     match clock::minutes_of(time) {
-        MinutesOf::Minutes(minutes) => number + time_days::days_in(minutes),
-        MinutesOf::NoMinutes => number,
+        Some(minutes) => number + time_days::days_in(minutes),
+        None => number,
     }
 }
 
@@ -37,7 +36,7 @@ fn period_at(
     station_places: &[u32],
     station: u64,
     number: u64,
-) -> RowOf
+) -> Option<usize>
     requires { Stored (Groups Timezone) zones_used zones.now × Stored (Rows Stations) stations_used stations.now }
     ensures { (R : PerFile (List Row))
         → R.timezone ≡ rows_in (Groups Timezone) zones.now
@@ -49,7 +48,7 @@ fn period_at(
     periods::find_period(zones, zones_used, zone_places, zone, number)
 }
 
-// A time as written at a station, by the number of its own day.
+// A time as written at a station, by the number of its own day: told, perhaps as no time, or not told, where the zone has no period on that day.
 fn time_on(
     zones: &[u64],
     zones_used: usize,
@@ -60,7 +59,7 @@ fn time_on(
     station: u64,
     number: u64,
     time: u64,
-) -> ToldTime
+) -> Option<Option<iff_desk::Moment>>
     requires { Stored (Groups Timezone) zones_used zones.now
         × Stored (Rows Stations) stations_used stations.now
         × FewHours zones.now }
@@ -83,7 +82,7 @@ fn time_on(
 
 pub fn arrival_on(
     timetbls: &[u64],
-    row: RowOf,
+    row: Option<usize>,
     zones: &[u64],
     zones_used: usize,
     zone_places: &[u32],
@@ -92,7 +91,7 @@ pub fn arrival_on(
     station_places: &[u32],
     station: u64,
     number: u64,
-) -> ToldTime
+) -> Option<Option<iff_desk::Moment>>
     requires { Stands (row_width Timetbls) timetbls.now row
         × Stored (Groups Timezone) zones_used zones.now
         × Stored (Rows Stations) stations_used stations.now
@@ -118,7 +117,7 @@ pub fn arrival_on(
 
 pub fn departure_on(
     timetbls: &[u64],
-    row: RowOf,
+    row: Option<usize>,
     zones: &[u64],
     zones_used: usize,
     zone_places: &[u32],
@@ -127,7 +126,7 @@ pub fn departure_on(
     station_places: &[u32],
     station: u64,
     number: u64,
-) -> ToldTime
+) -> Option<Option<iff_desk::Moment>>
     requires { Stands (row_width Timetbls) timetbls.now row
         × Stored (Groups Timezone) zones_used zones.now
         × Stored (Rows Stations) stations_used stations.now

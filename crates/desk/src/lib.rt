@@ -18,7 +18,7 @@ ghost use Rattle.desk.specs.Sure.{Once, Leant, CountedRows};
 
 use changing::Visit;
 use iff::{File, GroupFile, Reason, RowFile};
-use iff_desk::{Change, Running, StopTime};
+use iff_desk::Change;
 use needed_times::StoreCounts;
 
 // Running day, of tables found sound.
@@ -30,7 +30,7 @@ fn running_there(
     service: u64,
     leg: u64,
     date: u64,
-) -> Running
+) -> Result<bool, iff::Reason>
     requires { Once Delivery delivery.now × Once Timetbls timetbls.now × Once (Groups Footnote) footnote.now }
     ensures { (R : PerFile (List Row))
         → R.delivery ≡ rows_in Delivery delivery.now
@@ -62,7 +62,7 @@ pub fn running_day(
     service: u64,
     leg: u64,
     date: u64,
-) -> Running
+) -> Result<bool, iff::Reason>
     ensures { result ≡ running_day (eleven delivery.now company.now country.now trnsmode.now
         timezone.now stations.now footnote.now timetbls.now changes.now
         xfootnote.now xchanges.now) service leg date }
@@ -82,7 +82,7 @@ pub fn running_day(
         xchanges,
         &mut places,
     ) {
-        return Running::RunningRefused(Reason::NotSound);
+        return Err(Reason::NotSound);
     }
     running_there(delivery, timetbls, footnote, &places, service, leg, date)
 }
@@ -97,7 +97,7 @@ fn stop_time_there(
     service: u64,
     stop: u64,
     date: u64,
-) -> StopTime
+) -> Result<iff_desk::StopTimes, iff::Reason>
     requires { Once Delivery delivery.now × Once (Groups Timezone) timezone.now × Once (Rows Stations) stations.now
         × Once Timetbls timetbls.now × FewHours timezone.now }
     ensures { (R : PerFile (List Row))
@@ -133,7 +133,7 @@ pub fn stop_time(
     service: u64,
     stop: u64,
     date: u64,
-) -> StopTime
+) -> Result<iff_desk::StopTimes, iff::Reason>
     ensures { result ≡ stop_time (eleven delivery.now company.now country.now trnsmode.now
         timezone.now stations.now footnote.now timetbls.now changes.now
         xfootnote.now xchanges.now) service stop date }
@@ -153,7 +153,7 @@ pub fn stop_time(
         xchanges,
         &mut places,
     ) {
-        return StopTime::StopTimeRefused(Reason::NotSound);
+        return Err(Reason::NotSound);
     }
     stop_time_there(
         delivery, timezone, stations, timetbls, &places, service, stop, date,
@@ -198,7 +198,7 @@ fn change_there(
     places: &[u32],
     from: Visit,
     to: Visit,
-) -> Change
+) -> Result<Change, Reason>
     requires { Leant delivery.now timezone.now stations.now footnote.now timetbls.now changes.now xfootnote.now xchanges.now }
     ensures { (R : PerFile (List Row))
         → RowsOf R delivery.now timezone.now stations.now footnote.now
@@ -235,7 +235,7 @@ pub fn change(
     to_service: u64,
     to_stop: u64,
     to_date: u64,
-) -> Change
+) -> Result<Change, Reason>
     ensures { result ≡ change_to (eleven delivery.now company.now country.now trnsmode.now
         timezone.now stations.now footnote.now timetbls.now changes.now
         xfootnote.now xchanges.now)
@@ -257,7 +257,7 @@ pub fn change(
         xchanges,
         &mut places,
     ) {
-        return Change::ChangeRefused(Reason::NotSound);
+        return Err(Reason::NotSound);
     }
     let from = Visit {
         service: from_service,

@@ -1,6 +1,6 @@
 -- Borders that stand by themselves: periods that leave days out, times past midnight, one stop for first and last, attributes of any code.
 use Prim.{tt}
-use Rattle.std.specs.Prelude.{ℕ, refl, List, [], ◌∷◌, true, pos, negsuc}
+use Rattle.std.specs.Prelude.{ℕ, refl, List, [], ◌∷◌, true, pos, negsuc, Err, None, Ok}
 use Rattle.iff.specs.Files.{PerFile}
 use Rattle.iff.specs.declared.GroupFile.TheVariants.{Timezone}
 use Rattle.iff.specs.declared.File.TheVariants.{Groups, Timetbls}
@@ -8,11 +8,9 @@ use Rattle.iff.specs.declared.Reason.TheVariants.{NoService, NoStop, NoDate, NoP
 use Rattle.iff_desk.specs.Sound.{sound}
 use Rattle.iff_desk.specs.Stops.{stop_time}
 use Rattle.iff_desk.specs.Changing.{change}
-use Rattle.iff_desk.specs.declared.TimeOf.TheVariants.{NoTime}
-use Rattle.iff_desk.specs.declared.StopTime.TheVariants.{StopTimeRefused}
 use Rattle.iff_desk.specs.declared.Early.TheVariants.{StationsDiffer}
 use Rattle.iff_desk.specs.declared.Source.TheVariants.{FromXchanges}
-use Rattle.iff_desk.specs.declared.Change.TheVariants.{ChangeRefused, NoBefore, NoShort}
+use Rattle.iff_desk.specs.declared.Change.TheVariants.{NoBefore, NoShort}
 use Rattle.small_delivery.specs.Claims.{Claim, claim, Hold}
 use Rattle.small_delivery.specs.Opened.{opened}
 use Rattle.small_delivery.specs.Delivery.{put, insert, at, edit}
@@ -51,16 +49,16 @@ periods_hold = (refl, (refl, (refl, (refl, (refl, (refl, tt))))))
 abbrev pub no_period : List Claim
 no_period =
     claim "the period's last day" (stop_time ended 8 2 9011615) (times BBB (time (pos 120) (pos 180)) (time (pos 120) (pos 180))) ∷
-    claim "the day after" (stop_time ended 8 2 10011615) (StopTimeRefused NoPeriod) ∷
-    claim "the same of another service" (stop_time ended 9 1 10011615) (StopTimeRefused NoPeriod) ∷
+    claim "the day after" (stop_time ended 8 2 10011615) (Err NoPeriod) ∷
+    claim "the same of another service" (stop_time ended 9 1 10011615) (Err NoPeriod) ∷
     -- by the station's own zone
-    claim "a stop in another zone" (stop_time ended 8 1 10011615) (times CCC NoTime (time (pos 30) (negsuc 89))) ∷
-    claim "a day between two periods" (stop_time parted 7 1 6011615) (StopTimeRefused NoPeriod) ∷
-    claim "the day after it" (stop_time parted 7 1 7011615) (times AAA NoTime (time (pos 210) (pos 90))) ∷
+    claim "a stop in another zone" (stop_time ended 8 1 10011615) (times CCC None (time (pos 30) (negsuc 89))) ∷
+    claim "a day between two periods" (stop_time parted 7 1 6011615) (Err NoPeriod) ∷
+    claim "the day after it" (stop_time parted 7 1 7011615) (times AAA None (time (pos 210) (pos 90))) ∷
     -- "12, 13, 14, 15"
-    claim "12 before 15" (stop_time ended 6 2 10011615) (StopTimeRefused NoService) ∷
-    claim "13 before 15" (stop_time ended 8 4 10011615) (StopTimeRefused NoStop) ∷
-    claim "14 before 15" (stop_time ended 8 2 11011615) (StopTimeRefused NoDate) ∷
+    claim "12 before 15" (stop_time ended 6 2 10011615) (Err NoService) ∷
+    claim "13 before 15" (stop_time ended 8 4 10011615) (Err NoStop) ∷
+    claim "14 before 15" (stop_time ended 8 2 11011615) (Err NoDate) ∷
     []
 
 pub no_period_hold : Hold no_period
@@ -71,12 +69,12 @@ no_period_hold = (refl, (refl, (refl, (refl, (refl, (refl, (refl, (refl, (refl, 
 abbrev pub no_period_in_change : List Claim
 no_period_in_change =
     -- also where CHANGES has the pair
-    claim "no period on A's date" (change ended (side 9 4 10011615) (side 8 2 9011615)) (ChangeRefused NoPeriod) ∷
-    claim "no period on B's date" (change ended (side 9 4 9011615) (side 8 2 10011615)) (ChangeRefused NoPeriod) ∷
+    claim "no period on A's date" (change ended (side 9 4 10011615) (side 8 2 9011615)) (Err NoPeriod) ∷
+    claim "no period on B's date" (change ended (side 9 4 9011615) (side 8 2 10011615)) (Err NoPeriod) ∷
     -- before flag 0
-    claim "no period, and flag 0" (change ended (side 9 4 10011615) (side 9 1 9011615)) (ChangeRefused NoPeriod) ∷
+    claim "no period, and flag 0" (change ended (side 9 4 10011615) (side 9 1 9011615)) (Err NoPeriod) ∷
     -- after the six
-    claim "no period, and the stations differ" (change ended (side 9 4 10011615) (side 7 1 10011615)) (NoBefore StationsDiffer) ∷
+    claim "no period, and the stations differ" (change ended (side 9 4 10011615) (side 7 1 10011615)) (Ok (NoBefore StationsDiffer)) ∷
     []
 
 pub no_period_in_change_hold : Hold no_period_in_change
@@ -86,12 +84,12 @@ no_period_in_change_hold = (refl, (refl, (refl, (refl, tt))))
 -- by the period that holds the day of the time itself (W2), here of times past midnight: 05011615 is the last day of +01
 abbrev pub own_day : List Claim
 own_day =
-    claim "2600" (stop_time stored 7 3 5011615) (times AAA (time (pos 1560) (pos 1440)) NoTime) ∷
+    claim "2600" (stop_time stored 7 3 5011615) (times AAA (time (pos 1560) (pos 1440)) None) ∷
     claim "2430 and 2510" (stop_time stored 7 2 5011615) (times CCC (time (pos 1470) (pos 1350)) (time (pos 1510) (pos 1390))) ∷
     -- 2600 of +02 to 0330 of +02
-    claim "a change" (change stored (side 7 3 5011615) (side 7 1 6011615)) (NoShort (pos 90) FromXchanges 99) ∷
+    claim "a change" (change stored (side 7 3 5011615) (side 7 1 6011615)) (Ok (NoShort (pos 90) FromXchanges 99)) ∷
     -- the day after the service day lies in no period
-    claim "2600 before a day in no period" (stop_time parted 7 3 5011615) (StopTimeRefused NoPeriod) ∷
+    claim "2600 before a day in no period" (stop_time parted 7 3 5011615) (Err NoPeriod) ∷
     []
 
 pub own_day_hold : Hold own_day

@@ -1,12 +1,11 @@
 -- Request W3, ranks that a clerk can read: "a table of sixteen entries in the order of the desk's own card, from all wildcards to none, in place of
 -- the sum". Each pattern's place is reckoned by the sum that it was: 8, 4, 2, 1 for an explicit from company, from mode, to company, to mode.
 use Prim.{tt}
-use Rattle.std.specs.Prelude.{ℕ, refl, List, [], ◌∷◌, length}
+use Rattle.std.specs.Prelude.{ℕ, refl, List, [], ◌∷◌, length, None}
 use Rattle.iff.specs.Tables.{Row}
-use Rattle.iff_desk.specs.Card.{card}
+use Rattle.iff_desk.specs.Card.{card, best_of}
 use Rattle.iff_desk.specs.Changing.{rank, best}
 use Rattle.iff_desk.specs.declared.Riding.{Riding}
-use Rattle.iff_desk.specs.declared.Best.TheVariants.{BestRow, NoBest}
 use Rattle.small_delivery.specs.Claims.{Claim, claim, Hold}
 use Rattle.small_delivery.specs.Opened.{opened}
 
@@ -70,23 +69,23 @@ names_hold = (refl, (refl, tt))
 -- each beats the one before it on the card, with the smaller time, whichever stands first
 abbrev pub in_turn : List Claim
 in_turn =
-    claim "***m before ****" (best NoBest (exception any_co any_mo any_co any_mo 99 ∷ exception any_co any_mo any_co mo 10 ∷ [])) (BestRow 1 10) ∷
-    claim "**c* before ***m" (best NoBest (exception any_co any_mo co any_mo 10 ∷ exception any_co any_mo any_co mo 99 ∷ [])) (BestRow 2 10) ∷
-    claim "**cm before **c*" (best NoBest (exception any_co any_mo co any_mo 99 ∷ exception any_co any_mo co mo 10 ∷ [])) (BestRow 3 10) ∷
-    claim "*m** before **cm" (best NoBest (exception any_co mo any_co any_mo 10 ∷ exception any_co any_mo co mo 99 ∷ [])) (BestRow 4 10) ∷
-    claim "*m*m before *m**" (best NoBest (exception any_co mo any_co any_mo 99 ∷ exception any_co mo any_co mo 10 ∷ [])) (BestRow 5 10) ∷
-    claim "*mc* before *m*m" (best NoBest (exception any_co mo co any_mo 10 ∷ exception any_co mo any_co mo 99 ∷ [])) (BestRow 6 10) ∷
-    claim "*mcm before *mc*" (best NoBest (exception any_co mo co any_mo 99 ∷ exception any_co mo co mo 10 ∷ [])) (BestRow 7 10) ∷
-    claim "c*** before *mcm" (best NoBest (exception co any_mo any_co any_mo 10 ∷ exception any_co mo co mo 99 ∷ [])) (BestRow 8 10) ∷
-    claim "c**m before c***" (best NoBest (exception co any_mo any_co any_mo 99 ∷ exception co any_mo any_co mo 10 ∷ [])) (BestRow 9 10) ∷
-    claim "c*c* before c**m" (best NoBest (exception co any_mo co any_mo 10 ∷ exception co any_mo any_co mo 99 ∷ [])) (BestRow 10 10) ∷
-    claim "c*cm before c*c*" (best NoBest (exception co any_mo co any_mo 99 ∷ exception co any_mo co mo 10 ∷ [])) (BestRow 11 10) ∷
-    claim "cm** before c*cm" (best NoBest (exception co mo any_co any_mo 10 ∷ exception co any_mo co mo 99 ∷ [])) (BestRow 12 10) ∷
-    claim "cm*m before cm**" (best NoBest (exception co mo any_co any_mo 99 ∷ exception co mo any_co mo 10 ∷ [])) (BestRow 13 10) ∷
-    claim "cmc* before cm*m" (best NoBest (exception co mo co any_mo 10 ∷ exception co mo any_co mo 99 ∷ [])) (BestRow 14 10) ∷
-    claim "cmcm before cmc*" (best NoBest (exception co mo co any_mo 99 ∷ exception co mo co mo 10 ∷ [])) (BestRow 15 10) ∷
+    claim "***m before ****" (best None (exception any_co any_mo any_co any_mo 99 ∷ exception any_co any_mo any_co mo 10 ∷ [])) (best_of 1 10) ∷
+    claim "**c* before ***m" (best None (exception any_co any_mo co any_mo 10 ∷ exception any_co any_mo any_co mo 99 ∷ [])) (best_of 2 10) ∷
+    claim "**cm before **c*" (best None (exception any_co any_mo co any_mo 99 ∷ exception any_co any_mo co mo 10 ∷ [])) (best_of 3 10) ∷
+    claim "*m** before **cm" (best None (exception any_co mo any_co any_mo 10 ∷ exception any_co any_mo co mo 99 ∷ [])) (best_of 4 10) ∷
+    claim "*m*m before *m**" (best None (exception any_co mo any_co any_mo 99 ∷ exception any_co mo any_co mo 10 ∷ [])) (best_of 5 10) ∷
+    claim "*mc* before *m*m" (best None (exception any_co mo co any_mo 10 ∷ exception any_co mo any_co mo 99 ∷ [])) (best_of 6 10) ∷
+    claim "*mcm before *mc*" (best None (exception any_co mo co any_mo 99 ∷ exception any_co mo co mo 10 ∷ [])) (best_of 7 10) ∷
+    claim "c*** before *mcm" (best None (exception co any_mo any_co any_mo 10 ∷ exception any_co mo co mo 99 ∷ [])) (best_of 8 10) ∷
+    claim "c**m before c***" (best None (exception co any_mo any_co any_mo 99 ∷ exception co any_mo any_co mo 10 ∷ [])) (best_of 9 10) ∷
+    claim "c*c* before c**m" (best None (exception co any_mo co any_mo 10 ∷ exception co any_mo any_co mo 99 ∷ [])) (best_of 10 10) ∷
+    claim "c*cm before c*c*" (best None (exception co any_mo co any_mo 99 ∷ exception co any_mo co mo 10 ∷ [])) (best_of 11 10) ∷
+    claim "cm** before c*cm" (best None (exception co mo any_co any_mo 10 ∷ exception co any_mo co mo 99 ∷ [])) (best_of 12 10) ∷
+    claim "cm*m before cm**" (best None (exception co mo any_co any_mo 99 ∷ exception co mo any_co mo 10 ∷ [])) (best_of 13 10) ∷
+    claim "cmc* before cm*m" (best None (exception co mo co any_mo 10 ∷ exception co mo any_co mo 99 ∷ [])) (best_of 14 10) ∷
+    claim "cmcm before cmc*" (best None (exception co mo co any_mo 99 ∷ exception co mo co mo 10 ∷ [])) (best_of 15 10) ∷
     -- "Highest rank wins, then the larger time."
-    claim "one place, two times" (best NoBest (exception co any_mo any_co mo 10 ∷ exception co any_mo any_co mo 20 ∷ [])) (BestRow 9 20) ∷
+    claim "one place, two times" (best None (exception co any_mo any_co mo 10 ∷ exception co any_mo any_co mo 20 ∷ [])) (best_of 9 20) ∷
     []
 
 pub in_turn_hold : Hold in_turn

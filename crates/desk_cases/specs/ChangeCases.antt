@@ -1,6 +1,6 @@
 -- "Change": from service A at stop i on its date to B at stop j on its date.
 use Prim.{tt}
-use Rattle.std.specs.Prelude.{ℕ, refl, List, [], ◌∷◌, ◌++◌, take, pos, negsuc}
+use Rattle.std.specs.Prelude.{ℕ, refl, List, [], ◌∷◌, ◌++◌, take, pos, negsuc, Ok, Err}
 use Rattle.iff.specs.Files.{PerFile, per_file}
 use Rattle.small_delivery.specs.Claims.{Claim, claim, Hold}
 use Rattle.small_delivery.specs.Opened.{opened}
@@ -14,7 +14,7 @@ use Rattle.iff.specs.declared.Reason.TheVariants.{NoService, NoStop, NoDate, Not
 use Rattle.iff_desk.specs.declared.Early.TheVariants.{SameService, FromRests, ToRests, StationsDiffer, NobodyAlights, NobodyBoards}
 use Rattle.iff_desk.specs.declared.Source.TheVariants.{FromChanges, FromStations, FromXchanges}
 use Rattle.iff_desk.specs.declared.Bar.TheVariants.{Pair00, Flag0}
-use Rattle.iff_desk.specs.declared.Change.TheVariants.{ChangeRefused, NoBefore, NoBarred, NoShort, Yes, Unsettled}
+use Rattle.iff_desk.specs.declared.Change.TheVariants.{NoBefore, NoBarred, NoShort, Yes, Unsettled}
 
 -- a service, a stop and a date
 abbrev pub side : ℕ → ℕ → ℕ → Side
@@ -24,27 +24,27 @@ side service stop date = record { service = service; stop = stop; date = date }
 abbrev pub no_before : List Claim
 no_before =
     -- "same service and date"
-    claim "the same service and date" (change stored (side 7 3 3011615) (side 7 1 3011615)) (NoBefore SameService) ∷
+    claim "the same service and date" (change stored (side 7 3 3011615) (side 7 1 3011615)) (Ok (NoBefore SameService)) ∷
     -- first, also where it rests
-    claim "the same service and date, at rest" (change stored (side 8 2 2011615) (side 8 1 2011615)) (NoBefore SameService) ∷
+    claim "the same service and date, at rest" (change stored (side 8 2 2011615) (side 8 1 2011615)) (Ok (NoBefore SameService)) ∷
     -- "A doesn't run on leg i-1"
-    claim "A rests on leg 1" (change stored (side 8 2 2011615) (side 9 1 3011615)) (NoBefore FromRests) ∷
+    claim "A rests on leg 1" (change stored (side 8 2 2011615) (side 9 1 3011615)) (Ok (NoBefore FromRests)) ∷
     -- before B
-    claim "A rests, and B" (change stored (side 8 2 2011615) (side 8 1 4011615)) (NoBefore FromRests) ∷
+    claim "A rests, and B" (change stored (side 8 2 2011615) (side 8 1 4011615)) (Ok (NoBefore FromRests)) ∷
     -- "B doesn't run on leg j"
-    claim "B rests on leg 1" (change stored (side 7 2 1011615) (side 8 1 2011615)) (NoBefore ToRests) ∷
+    claim "B rests on leg 1" (change stored (side 7 2 1011615) (side 8 1 2011615)) (Ok (NoBefore ToRests)) ∷
     -- before the stations
-    claim "B rests, and the stations differ" (change stored (side 7 3 1011615) (side 8 1 2011615)) (NoBefore ToRests) ∷
+    claim "B rests, and the stations differ" (change stored (side 7 3 1011615) (side 8 1 2011615)) (Ok (NoBefore ToRests)) ∷
     -- "stations differ"
-    claim "the stations differ" (change stored (side 7 2 1011615) (side 9 1 2011615)) (NoBefore StationsDiffer) ∷
+    claim "the stations differ" (change stored (side 7 2 1011615) (side 9 1 2011615)) (Ok (NoBefore StationsDiffer)) ∷
     -- before nobody alights
-    claim "the stations differ, and nobody alights" (change stored (side 9 2 1011615) (side 9 1 2011615)) (NoBefore StationsDiffer) ∷
+    claim "the stations differ, and nobody alights" (change stored (side 9 2 1011615) (side 9 1 2011615)) (Ok (NoBefore StationsDiffer)) ∷
     -- "nobody alights"
-    claim "nobody alights" (change stored (side 9 2 1011615) (side 8 1 3011615)) (NoBefore NobodyAlights) ∷
+    claim "nobody alights" (change stored (side 9 2 1011615) (side 8 1 3011615)) (Ok (NoBefore NobodyAlights)) ∷
     -- "nobody boards"
-    claim "nobody boards" (change stored (side 7 3 1011615) (side 9 3 2011615)) (NoBefore NobodyBoards) ∷
+    claim "nobody boards" (change stored (side 7 3 1011615) (side 9 3 2011615)) (Ok (NoBefore NobodyBoards)) ∷
     -- the same service on another date is not the same
-    claim "the same service a day later" (change stored (side 7 3 6011615) (side 7 1 7011615)) (Yes (pos 90) FromStations 5) ∷
+    claim "the same service a day later" (change stored (side 7 3 6011615) (side 7 1 7011615)) (Ok (Yes (pos 90) FromStations 5)) ∷
     []
 
 pub no_before_hold : Hold no_before
@@ -55,20 +55,20 @@ no_before_hold = (refl, (refl, (refl, (refl, (refl, (refl, (refl, (refl, (refl, 
 abbrev pub by_pairs : List Claim
 by_pairs =
     -- "CHANGES pair there (.. 01 and 02: needed 0)"; 2430 to 0030 a day later
-    claim "01, gap 0" (change stored (side 7 2 2011615) (side 8 1 3011615)) (Yes (pos 0) FromChanges 0) ∷
+    claim "01, gap 0" (change stored (side 7 2 2011615) (side 8 1 3011615)) (Ok (Yes (pos 0) FromChanges 0)) ∷
     -- "Gap below needed: No."
-    claim "01, a day too early" (change stored (side 7 2 3011615) (side 8 1 3011615)) (NoShort (negsuc 1439) FromChanges 0) ∷
+    claim "01, a day too early" (change stored (side 7 2 3011615) (side 8 1 3011615)) (Ok (NoShort (negsuc 1439) FromChanges 0)) ∷
     -- "00: No"; "00 and flag 0 have a source and no needed time"
-    claim "00" (change stored (side 7 2 1011615) (side 9 2 2011615)) (NoBarred (pos 120) Pair00) ∷
-    claim "02" (change stored (side 9 4 1011615) (side 8 2 2011615)) (Yes (pos 1320) FromChanges 0) ∷
-    claim "02, a day too early" (change stored (side 9 4 10011615) (side 8 2 9011615)) (NoShort (negsuc 1559) FromChanges 0) ∷
+    claim "00" (change stored (side 7 2 1011615) (side 9 2 2011615)) (Ok (NoBarred (pos 120) Pair00)) ∷
+    claim "02" (change stored (side 9 4 1011615) (side 8 2 2011615)) (Ok (Yes (pos 1320) FromChanges 0)) ∷
+    claim "02, a day too early" (change stored (side 9 4 10011615) (side 8 2 9011615)) (Ok (NoShort (negsuc 1559) FromChanges 0)) ∷
     -- a pair comes before flag 0
-    claim "01 at a station with flag 0" (change stored (side 8 2 1011615) (side 9 1 2011615)) (Yes (pos 1380) FromChanges 0) ∷
+    claim "01 at a station with flag 0" (change stored (side 8 2 1011615) (side 9 1 2011615)) (Ok (Yes (pos 1380) FromChanges 0)) ∷
     -- "flag 0: No"
-    claim "flag 0, no pair" (change stored (side 9 4 1011615) (side 9 1 2011615)) (NoBarred (pos 1260) Flag0) ∷
-    claim "flag 0, another service" (change stored (side 8 2 1011615) (side 8 2 2011615)) (NoBarred (pos 1440) Flag0) ∷
+    claim "flag 0, no pair" (change stored (side 9 4 1011615) (side 9 1 2011615)) (Ok (NoBarred (pos 1260) Flag0)) ∷
+    claim "flag 0, another service" (change stored (side 8 2 1011615) (side 8 2 2011615)) (Ok (NoBarred (pos 1440) Flag0)) ∷
     -- whatever the gap
-    claim "flag 0, a day too early" (change stored (side 9 4 10011615) (side 9 1 9011615)) (NoBarred (negsuc 1619) Flag0) ∷
+    claim "flag 0, a day too early" (change stored (side 9 4 10011615) (side 9 1 9011615)) (Ok (NoBarred (negsuc 1619) Flag0)) ∷
     []
 
 pub by_pairs_hold : Hold by_pairs
@@ -79,26 +79,26 @@ by_pairs_hold = (refl, (refl, (refl, (refl, (refl, (refl, (refl, (refl, (refl, t
 abbrev pub by_times : List Claim
 by_times =
     -- "best XCHANGES row": rank 8 (020) beats rank 7 (030)
-    claim "the higher rank" (change stored (side 7 3 1011615) (side 7 1 2011615)) (Yes (pos 90) FromXchanges 20) ∷
+    claim "the higher rank" (change stored (side 7 3 1011615) (side 7 1 2011615)) (Ok (Yes (pos 90) FromXchanges 20)) ∷
     -- "Highest rank wins, then the larger time.": 099 beats 020, both of rank 8
-    claim "the larger time" (change stored (side 7 3 4011615) (side 7 1 5011615)) (NoShort (pos 90) FromXchanges 99) ∷
+    claim "the larger time" (change stored (side 7 3 4011615) (side 7 1 5011615)) (Ok (NoShort (pos 90) FromXchanges 99)) ∷
     -- 099 from XCHANGES is an ordinary time
-    claim "XCHANGES 099, Yes" (change stored (side 7 3 4011615) (side 7 1 6011615)) (Yes (pos 1470) FromXchanges 99) ∷
+    claim "XCHANGES 099, Yes" (change stored (side 7 3 4011615) (side 7 1 6011615)) (Ok (Yes (pos 1470) FromXchanges 99)) ∷
     -- "its vector has 1 on A's date"; from +01 to +02: 0300 to 0330 a day later
-    claim "on A's date and not on B's" (change stored (side 9 3 5011615) (side 7 1 6011615)) (Yes (pos 1410) FromXchanges 30) ∷
+    claim "on A's date and not on B's" (change stored (side 9 3 5011615) (side 7 1 6011615)) (Ok (Yes (pos 1410) FromXchanges 30)) ∷
     -- "the station's change time", where no row applies
-    claim "no row on A's date" (change stored (side 7 3 6011615) (side 7 1 7011615)) (Yes (pos 90) FromStations 5) ∷
-    claim "the station's time, B before A" (change stored (side 7 3 6011615) (side 7 1 5011615)) (NoShort (negsuc 2729) FromStations 5) ∷
+    claim "no row on A's date" (change stored (side 7 3 6011615) (side 7 1 7011615)) (Ok (Yes (pos 90) FromStations 5)) ∷
+    claim "the station's time, B before A" (change stored (side 7 3 6011615) (side 7 1 5011615)) (Ok (NoShort (negsuc 2729) FromStations 5)) ∷
     -- "its four keys fit A on leg i-1 and B on leg j": company 200 and BOAT on leg 2; gap and needed time are the same
-    claim "a row of rank 7 alone" (change stored (side 9 3 1011615) (side 7 1 1011615)) (Yes (pos 30) FromXchanges 30) ∷
+    claim "a row of rank 7 alone" (change stored (side 9 3 1011615) (side 7 1 1011615)) (Ok (Yes (pos 30) FromXchanges 30)) ∷
     -- company 200 and IC: rank 12
-    claim "999, too short" (change stored (side 8 3 1011615) (side 7 1 1011615)) (NoShort (pos 29) FromXchanges 999) ∷
+    claim "999, too short" (change stored (side 8 3 1011615) (side 7 1 1011615)) (Ok (NoShort (pos 29) FromXchanges 999)) ∷
     -- "Unsettled if needed is .. 999 from XCHANGES"; A rests on leg 1, but not on leg 2
-    claim "999, a day later" (change stored (side 8 3 2011615) (side 7 1 3011615)) (Unsettled (pos 1469) FromXchanges 999) ∷
-    claim "no row, the station's time" (change stored (side 8 3 6011615) (side 7 1 6011615)) (Yes (pos 29) FromStations 5) ∷
+    claim "999, a day later" (change stored (side 8 3 2011615) (side 7 1 3011615)) (Ok (Unsettled (pos 1469) FromXchanges 999)) ∷
+    claim "no row, the station's time" (change stored (side 8 3 6011615) (side 7 1 6011615)) (Ok (Yes (pos 29) FromStations 5)) ∷
     -- "Unsettled if needed is 99 from STATIONS"
-    claim "99, a day later" (change stored (side 7 2 1011615) (side 7 2 2011615)) (Unsettled (pos 1480) FromStations 99) ∷
-    claim "99, a day earlier" (change stored (side 7 2 2011615) (side 7 2 1011615)) (NoShort (negsuc 1399) FromStations 99) ∷
+    claim "99, a day later" (change stored (side 7 2 1011615) (side 7 2 2011615)) (Ok (Unsettled (pos 1480) FromStations 99)) ∷
+    claim "99, a day earlier" (change stored (side 7 2 2011615) (side 7 2 1011615)) (Ok (NoShort (negsuc 1399) FromStations 99)) ∷
     []
 
 pub by_times_hold : Hold by_times
@@ -109,24 +109,24 @@ by_times_hold = (refl, (refl, (refl, (refl, (refl, (refl, (refl, (refl, (refl, (
 abbrev pub refusals : List Claim
 refusals =
     -- "12, 13, 14, for A then B each"
-    claim "A's service" (change stored (side 6 2 1011615) (side 8 1 1011615)) (ChangeRefused NoService) ∷
+    claim "A's service" (change stored (side 6 2 1011615) (side 8 1 1011615)) (Err NoService) ∷
     -- "stop i (2 to n)"
-    claim "A's stop 1" (change stored (side 7 1 1011615) (side 8 1 1011615)) (ChangeRefused NoStop) ∷
-    claim "A's stop 4 of three" (change stored (side 7 4 1011615) (side 8 1 1011615)) (ChangeRefused NoStop) ∷
-    claim "A's date" (change stored (side 7 2 11011615) (side 8 1 1011615)) (ChangeRefused NoDate) ∷
-    claim "B's service" (change stored (side 7 2 1011615) (side 6 1 1011615)) (ChangeRefused NoService) ∷
+    claim "A's stop 1" (change stored (side 7 1 1011615) (side 8 1 1011615)) (Err NoStop) ∷
+    claim "A's stop 4 of three" (change stored (side 7 4 1011615) (side 8 1 1011615)) (Err NoStop) ∷
+    claim "A's date" (change stored (side 7 2 11011615) (side 8 1 1011615)) (Err NoDate) ∷
+    claim "B's service" (change stored (side 7 2 1011615) (side 6 1 1011615)) (Err NoService) ∷
     -- "stop j (1 to n-1)"
-    claim "B's stop 0" (change stored (side 7 2 1011615) (side 8 0 1011615)) (ChangeRefused NoStop) ∷
-    claim "B's last stop" (change stored (side 7 2 1011615) (side 8 3 1011615)) (ChangeRefused NoStop) ∷
-    claim "B's date" (change stored (side 7 2 1011615) (side 8 1 11615)) (ChangeRefused NoDate) ∷
+    claim "B's stop 0" (change stored (side 7 2 1011615) (side 8 0 1011615)) (Err NoStop) ∷
+    claim "B's last stop" (change stored (side 7 2 1011615) (side 8 3 1011615)) (Err NoStop) ∷
+    claim "B's date" (change stored (side 7 2 1011615) (side 8 1 11615)) (Err NoDate) ∷
     -- A's 14 before B's 12
-    claim "A's date, B's service" (change stored (side 7 2 11011615) (side 6 1 1011615)) (ChangeRefused NoDate) ∷
-    claim "A's 12 before B's 13" (change stored (side 6 2 1011615) (side 8 0 1011615)) (ChangeRefused NoService) ∷
+    claim "A's date, B's service" (change stored (side 7 2 11011615) (side 6 1 1011615)) (Err NoDate) ∷
+    claim "A's 12 before B's 13" (change stored (side 6 2 1011615) (side 8 0 1011615)) (Err NoService) ∷
     -- before the six
-    claim "the same service and date, at its last stop" (change stored (side 7 3 1011615) (side 7 3 1011615)) (ChangeRefused NoStop) ∷
+    claim "the same service and date, at its last stop" (change stored (side 7 3 1011615) (side 7 3 1011615)) (Err NoStop) ∷
     -- "test 16 first"
-    claim "empty tables" (change (per_file (λ f. [])) (side 6 0 0) (side 6 0 0)) (ChangeRefused NotSound) ∷
-    claim "one word that should be zero" (change tampered (side 7 3 1011615) (side 7 1 1011615)) (ChangeRefused NotSound) ∷
+    claim "empty tables" (change (per_file (λ f. [])) (side 6 0 0) (side 6 0 0)) (Err NotSound) ∷
+    claim "one word that should be zero" (change tampered (side 7 3 1011615) (side 7 1 1011615)) (Err NotSound) ∷
     []
 
 pub refusals_hold : Hold refusals
@@ -137,11 +137,11 @@ refusals_hold = (refl, (refl, (refl, (refl, (refl, (refl, (refl, (refl, (refl, (
 abbrev pub absent_files : List Claim
 absent_files =
     -- without CHANGES the pair of 7 and 8 is not there
-    claim "no CHANGES" (change (keeping 0 (Groups Changes) stored) (side 7 2 2011615) (side 8 1 3011615)) (NoShort (pos 0) FromStations 99) ∷
+    claim "no CHANGES" (change (keeping 0 (Groups Changes) stored) (side 7 2 2011615) (side 8 1 3011615)) (Ok (NoShort (pos 0) FromStations 99)) ∷
     -- without XCHANGES no row applies
     claim "no XCHANGES and no XFOOTNOTE"
     (change (keeping 0 (Groups Xchanges) (keeping 0 (Groups Xfootnote) stored)) (side 7 3 1011615) (side 7 1 2011615))
-    (Yes (pos 90) FromStations 5) ∷
+    (Ok (Yes (pos 90) FromStations 5)) ∷
     []
 
 pub absent_files_hold : Hold absent_files
@@ -200,18 +200,18 @@ leaving_aAA =
 -- "its four keys fit A on leg i-1 and B on leg j", each key by itself
 abbrev pub by_keys : List Claim
 by_keys =
-    claim "to company 100" (change by_to_company (side 7 2 1011615) (side 7 2 2011615)) (Yes (pos 1480) FromXchanges 20) ∷
-    claim "to company 200" (change by_to_company (side 7 2 1011615) (side 9 2 2011615)) (Yes (pos 120) FromXchanges 40) ∷
-    claim "to mode BOAT" (change by_to_mode (side 7 2 1011615) (side 7 2 2011615)) (Yes (pos 1480) FromXchanges 21) ∷
-    claim "to mode IC" (change by_to_mode (side 7 2 1011615) (side 8 1 3011615)) (Yes (pos 1440) FromXchanges 41) ∷
+    claim "to company 100" (change by_to_company (side 7 2 1011615) (side 7 2 2011615)) (Ok (Yes (pos 1480) FromXchanges 20)) ∷
+    claim "to company 200" (change by_to_company (side 7 2 1011615) (side 9 2 2011615)) (Ok (Yes (pos 120) FromXchanges 40)) ∷
+    claim "to mode BOAT" (change by_to_mode (side 7 2 1011615) (side 7 2 2011615)) (Ok (Yes (pos 1480) FromXchanges 21)) ∷
+    claim "to mode IC" (change by_to_mode (side 7 2 1011615) (side 8 1 3011615)) (Ok (Yes (pos 1440) FromXchanges 41)) ∷
     -- service 9 has IC on leg 1 and BOAT on leg 2
-    claim "to mode of leg j" (change by_to_mode (side 7 2 1011615) (side 9 2 2011615)) (Yes (pos 120) FromXchanges 21) ∷
+    claim "to mode of leg j" (change by_to_mode (side 7 2 1011615) (side 9 2 2011615)) (Ok (Yes (pos 120) FromXchanges 21)) ∷
     -- service 9 has company 200 on leg 2 and 100 on leg 3
-    claim "from company of leg i-1" (change by_from_company (side 9 3 1011615) (side 7 1 1011615)) (Yes (pos 30) FromXchanges 22) ∷
-    claim "from company 100" (change by_from_company (side 7 3 1011615) (side 7 1 2011615)) (Yes (pos 90) FromXchanges 25) ∷
-    claim "to company of leg j" (change leaving_aAA (side 8 3 1011615) (side 9 3 1011615)) (Yes (pos 14) FromXchanges 10) ∷
-    claim "from mode BOAT" (change by_from_mode (side 9 3 1011615) (side 7 1 1011615)) (Yes (pos 30) FromXchanges 23) ∷
-    claim "from mode IC" (change by_from_mode (side 8 3 1011615) (side 7 1 1011615)) (Yes (pos 29) FromXchanges 26) ∷
+    claim "from company of leg i-1" (change by_from_company (side 9 3 1011615) (side 7 1 1011615)) (Ok (Yes (pos 30) FromXchanges 22)) ∷
+    claim "from company 100" (change by_from_company (side 7 3 1011615) (side 7 1 2011615)) (Ok (Yes (pos 90) FromXchanges 25)) ∷
+    claim "to company of leg j" (change leaving_aAA (side 8 3 1011615) (side 9 3 1011615)) (Ok (Yes (pos 14) FromXchanges 10)) ∷
+    claim "from mode BOAT" (change by_from_mode (side 9 3 1011615) (side 7 1 1011615)) (Ok (Yes (pos 30) FromXchanges 23)) ∷
+    claim "from mode IC" (change by_from_mode (side 8 3 1011615) (side 7 1 1011615)) (Ok (Yes (pos 29) FromXchanges 26)) ∷
     []
 
 pub by_keys_hold : Hold by_keys

@@ -5,17 +5,13 @@ use Rattle.std.proofs.Common.{ap, ◌∙◌}
 use Rattle.std.proofs.Math.Bool.{and-false}
 use Rattle.std.proofs.lemmas.Bool.{lt-leb}
 use Rattle.iff.specs.Lists.{all, all_of, total}
-use Rattle.iff.specs.Refusals.{or_else, first_fault, answer}
+use Rattle.iff.specs.Refusals.{or_else, first_fault, answer, Verdict, at_place, fault_at}
 use Rattle.iff.specs.Files.{PerFile, of, in_order, limit}
 use Rattle.iff.specs.declared.File.{File}
 use Rattle.iff.specs.declared.RowFile.TheVariants.{Company, Country, Trnsmode, Stations}
 use Rattle.iff.specs.declared.GroupFile.TheVariants.{Timezone, Footnote, Changes, Xfootnote, Xchanges}
 use Rattle.iff.specs.declared.File.TheVariants.{Delivery, Rows, Groups, Timetbls}
 use Rattle.iff.specs.declared.Reason.TheVariants.{TooLong}
-use Rattle.iff.specs.declared.Place.TheVariants.{At}
-use Rattle.iff.specs.declared.Verdict.{Verdict}
-use Rattle.iff.specs.declared.Verdict.TheVariants.{Fault}
-use Rattle.iff.specs.declared.Answer.TheVariants.{Refused}
 use Rattle.iff.specs.Lines.{lines}
 use Rattle.iff.specs.Tables.{Row}
 use Rattle.iff_rules.specs.Rows.{rows_of_files, Context, context_of, first_of}
@@ -39,14 +35,14 @@ lengths : PerFile (List ℕ) → List File → Verdict
 lengths F fs = first_fault (map (λ f. length_verdict f (length (of F f))) fs)
 
 first_too_long : (F : PerFile (List ℕ)) (earlier : List File) (f : File) (later : List File)
-    → Within F earlier → within F f ≡ false → lengths F (earlier ++ (f ∷ later)) ≡ Fault TooLong (At f 0 0)
+    → Within F earlier → within F f ≡ false → lengths F (earlier ++ (f ∷ later)) ≡ fault_at TooLong (at_place f 0 0)
 unfolding lengths first_fault
 first_too_long F [] f later w long = rw long
 first_too_long F (g ∷ gs) f later w long = rw w.0 (first_too_long F gs f later w.1 long)
 
 -- the first file that is too long is refused 1 at 0, 0, whatever the rest holds
 pub too_long : (F : PerFile (List ℕ)) (R : PerFile ℕ) (earlier : List File) (f : File) (later : List File)
-    → in_order ≡ earlier ++ (f ∷ later) → Within F earlier → within F f ≡ false → load_verdict F R ≡ Fault TooLong (At f 0 0)
+    → in_order ≡ earlier ++ (f ∷ later) → Within F earlier → within F f ≡ false → load_verdict F R ≡ fault_at TooLong (at_place f 0 0)
 unfolding lengths first_fault load_verdict
 too_long F R earlier f later e w long =
     ap
@@ -59,7 +55,7 @@ too_long F R earlier f later e w long =
     (ap (lengths F) e ∙ first_too_long F earlier f later w long)
 
 pub too_long_answer : (F : PerFile (List ℕ)) (R : PerFile ℕ) (earlier : List File) (f : File) (later : List File)
-    → in_order ≡ earlier ++ (f ∷ later) → Within F earlier → within F f ≡ false → load_answer F R ≡ Refused TooLong (At f 0 0)
+    → in_order ≡ earlier ++ (f ∷ later) → Within F earlier → within F f ≡ false → load_answer F R ≡ fault_at TooLong (at_place f 0 0)
 unfolding load_answer
 too_long_answer F R earlier f later e w long =
     ap
@@ -77,7 +73,7 @@ pub longer : (F : PerFile (List ℕ)) (f : File) → limit < length (of F f) →
 longer F f h = lt-leb (length (of F f)) limit h
 
 -- DELIVERY
-pub delivery_too_long : (F : PerFile (List ℕ)) (R : PerFile ℕ) → limit < length F.delivery → load_verdict F R ≡ Fault TooLong (At Delivery 0 0)
+pub delivery_too_long : (F : PerFile (List ℕ)) (R : PerFile ℕ) → limit < length F.delivery → load_verdict F R ≡ fault_at TooLong (at_place Delivery 0 0)
 delivery_too_long F R h =
     too_long F R [] Delivery
     (Rows Company ∷ Rows Country ∷ Rows Trnsmode ∷ Groups Timezone ∷ Rows Stations ∷ Groups Footnote ∷ Timetbls ∷ Groups Changes
@@ -91,7 +87,7 @@ before_timetbls =
 
 pub timetbls_too_long : (F : PerFile (List ℕ)) (R : PerFile ℕ)
     → Within F before_timetbls
-    → limit < length F.timetbls → load_verdict F R ≡ Fault TooLong (At Timetbls 0 0)
+    → limit < length F.timetbls → load_verdict F R ≡ fault_at TooLong (at_place Timetbls 0 0)
 timetbls_too_long F R w h =
     too_long F R
     before_timetbls
@@ -103,7 +99,7 @@ timetbls_too_long F R w h =
 pub amendment_too_long : (T : PerFile (List ℕ)) (s : ℕ) (b : List ℕ)
     → sound T ≡ true → is_one_block s (lines b) ≡ true → names (context_of (rows_of_tables T)) Timetbls s ≡ true
     → limit < edited_length (context_of (rows_of_tables T)) (place_of s (rows_of_tables T).timetbls) (rows_of_tables T).timetbls b
-    → amend_verdict T s b ≡ Fault TooLong (At Timetbls 0 0)
+    → amend_verdict T s b ≡ fault_at TooLong (at_place Timetbls 0 0)
 unfolding amend_verdict first_fault
 amendment_too_long T s b ok one there h =
     let R = rows_of_tables T in

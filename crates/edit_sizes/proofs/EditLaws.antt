@@ -1,4 +1,5 @@
 -- Laws of the sizes of an edited table: rows that stay and rows that give way. Assumes nothing.
+use Rattle.std.specs.Prelude.{Ok}
 use Prim.Native.Nat.{ℕ, zero, suc, ◌+◌, ◌-◌, ◌*◌, ◌/◌, ◌≤◌, ◌<◌}
 use mathlib.Core.Path.{◌≡◌, refl, ap, sym, ◌∙◌}
 use mathlib.Core.List.{List, [], ◌∷◌, ◌++◌}
@@ -16,16 +17,15 @@ use Rattle.iff.specs.Lines.{lines}
 use Rattle.iff.specs.Tables.{Row, tag, row_at, row_width}
 use Rattle.iff.specs.declared.File.TheVariants.{Timetbls}
 use Rattle.iff.specs.declared.Form.{Form}
-use Rattle.iff.specs.declared.Place.TheVariants.{At}
 use Rattle.iff.specs.declared.Reason.TheVariants.{TooLong, NoRoom}
 use Rattle.iff.specs.declared.Record.{Record}
 use Rattle.iff.specs.declared.Record.TheVariants.{FirstRecord}
-use Rattle.iff.specs.declared.Verdict.TheVariants.{Fine, Fault}
 use Rattle.iff_desk.specs.Sound.{row_size, first_size}
 use Rattle.keys.specs.Blocks.{block_of_rows, rows_between}
 use Rattle.walks.proofs.GroupLaws.{between_none, between_first}
 use Rattle.row_sizes.proofs.LineLaws.{line_length}
 use Rattle.edit_sizes.specs.Edits.{Editable, edited_bytes, sizes_verdict}
+use Rattle.iff.specs.Refusals.{at_place, fault_at}
 
 -- A FIRST LINE is a record like any other, of 58 columns
 pub first_record : (form : Form) → (line_length form FirstRecord + 2 ≡ first_size) × (line_length form FirstRecord ≡ 58)
@@ -119,7 +119,7 @@ used_room used n h = (le-div_iff_mul-le {k = row_width Timetbls} {x = used} {y =
 
 -- THE VERDICT
 module _ (form : Form) (t : List ℕ) (used from to : ℕ) (b : List ℕ) (fits : Bool) (f : fits ≡ leb (edited_bytes form t used from to (length b)) limit) where
-  pub too_long : fits ≡ false → Fault TooLong (At Timetbls 0 0) ≡ sizes_verdict form t used from to b
+  pub too_long : fits ≡ false → fault_at TooLong (at_place Timetbls 0 0) ≡ sizes_verdict form t used from to b
   unfolding sizes_verdict
   too_long e = rw (sym f ∙ e)
 
@@ -127,10 +127,10 @@ module _ (form : Form) (t : List ℕ) (used from to : ℕ) (b : List ℕ) (fits 
     counted : r ≡ leb (from + length (lines b) + (used - to)) (length t / row_width Timetbls)
     counted = g ∙ ap (λ (k : ℕ). leb (from + k + (used - to)) (length t / row_width Timetbls)) m
 
-    pub no_room : r ≡ false → Fault NoRoom (At Timetbls 0 0) ≡ sizes_verdict form t used from to b
+    pub no_room : r ≡ false → fault_at NoRoom (at_place Timetbls 0 0) ≡ sizes_verdict form t used from to b
     unfolding sizes_verdict
     no_room q = rw (sym f ∙ e, sym counted ∙ q)
 
-    pub sizes_fine : r ≡ true → Fine ≡ sizes_verdict form t used from to b
+    pub sizes_fine : r ≡ true → Ok tt ≡ sizes_verdict form t used from to b
     unfolding sizes_verdict
     sizes_fine q = rw (sym f ∙ e, sym counted ∙ q)

@@ -3,11 +3,10 @@ use Rattle.std.specs.Prelude.{ℕ, ◌+◌, ◌-◌, ◌*◌, ◌≤◌, ◌<◌
 use Rattle.iff.specs.Lists.{total}
 use Rattle.iff.specs.Files.{limit}
 use Rattle.iff.specs.Lines.{lines}
-use Rattle.iff.specs.Refusals.{or_else}
+use Rattle.iff.specs.Refusals.{or_else, Verdict}
 use Rattle.iff.specs.Tables.{row_width}
 use Rattle.iff.specs.declared.File.TheVariants.{Timetbls}
 use Rattle.iff.specs.declared.Form.{Form}
-use Rattle.iff.specs.declared.Verdict.{Verdict}
 use Rattle.iff_rules.specs.Load.{length_verdict, room_verdict}
 use Rattle.iff_desk.specs.Sound.{row_size, first_size}
 use Rattle.keys.specs.Blocks.{rows_between}

@@ -10,7 +10,7 @@ ghost use Rattle.iff_desk.specs.Sound.{row_size, first_size};
 ghost use Rattle.keys.specs.Blocks.{rows_between};
 ghost use Rattle.edit_sizes.specs.Edits.{Editable, edited_bytes, sizes_verdict};
 
-use iff::{File, Form, Place, Reason, Record, Verdict};
+use iff::{File, Form, Reason, Record, Verdict};
 
 // The bytes of a first line, with its CR LF.
 fn first_length(form: Form) -> usize
@@ -26,12 +26,10 @@ fn lines_length(form: Form, t: &[u64], from: usize, to: usize) -> usize
     ensures { result ≡ total (row_size form Timetbls) (rows_between (row_width Timetbls) t.now from to) }
 {
     let mut bytes: usize = 0;
-    let mut i = from;
-    while i < to {
+    for i in from..to {
         let tag = tables::word_at(t, tables::BLOCK_WIDTH, i, iff::words::TAG);
         let n = row_sizes::record_length(shapes::record_of(File::Timetbls, tag), form);
         bytes += n + 2;
-        i += 1;
     }
     bytes
 }
@@ -70,10 +68,24 @@ pub fn test_sizes(
     ensures { result ≡ sizes_verdict form t.now used from to block.now }
 {
     if !fits_limit(form, t, used, from, to, block.len()) {
-        return Verdict::Fault(Reason::TooLong, Place::At(File::Timetbls, 0, 0));
+        return Err(iff::Fault {
+            reason: Reason::TooLong,
+            place: Some(iff::Place {
+                file: File::Timetbls,
+                ordinal: 0,
+                line: 0,
+            }),
+        });
     }
     if !has_room(t, used, from, to, line_counts::count_lines(block)) {
-        return Verdict::Fault(Reason::NoRoom, Place::At(File::Timetbls, 0, 0));
+        return Err(iff::Fault {
+            reason: Reason::NoRoom,
+            place: Some(iff::Place {
+                file: File::Timetbls,
+                ordinal: 0,
+                line: 0,
+            }),
+        });
     }
-    Verdict::Fine
+    Ok(())
 }

@@ -12,7 +12,7 @@ ghost use Rattle.store.specs.Found.{Stored};
 ghost use Rattle.exception_rows.specs.Rows.{applies_by, weigh, best_with};
 
 use iff::{GroupFile, words};
-use iff_desk::{Best, Riding};
+use iff_desk::Riding;
 
 // How many words a row of XCHANGES has.
 const EXCEPTION_WIDTH: usize = 7;
@@ -88,7 +88,7 @@ fn applies(
 }
 
 // The better of row `i` and the best before it.
-fn weighed(t: &[u64], i: usize, best: Best) -> Best
+fn weighed(t: &[u64], i: usize, best: Option<iff_desk::Best>) -> Option<iff_desk::Best>
     requires { i * row_width (Groups Xchanges) + row_width (Groups Xchanges) ≤ length t.now }
     ensures { result ≡ weigh best (row_at (row_width (Groups Xchanges)) t.now i) }
 {
@@ -102,14 +102,14 @@ fn weighed(t: &[u64], i: usize, best: Best) -> Best
 pub fn best_with(
     t: &[u64],
     i: usize,
-    best: Best,
+    best: Option<iff_desk::Best>,
     xfootnotes: &[u64],
     used: usize,
     places: &[u32],
     a: Riding,
     b: Riding,
     day: u64,
-) -> Best
+) -> Option<iff_desk::Best>
     requires { (i * row_width (Groups Xchanges) + row_width (Groups Xchanges) ≤ length t.now) × Stored (Groups Xfootnote) used xfootnotes.now }
     ensures { result
         ≡ best_with (applies_by (rows_in (Groups Xfootnote) xfootnotes.now) a b day) best

@@ -2,21 +2,20 @@
 // exact index of the stations that open its groups, and XFOOTNOTE with places, a hint where keys stand, on which nothing rests.
 #![tactic(auto)]
 
-ghost use Rattle.std.specs.Prelude.{◌≡◌, List, ◌*◌, ◌≤◌, length};
+ghost use Rattle.std.specs.Prelude.{◌≡◌, List, ◌*◌, ◌≤◌, length, None};
 ghost use Rattle.iff.specs.Files.{PerFile};
 ghost use Rattle.iff.specs.Lists.{kept};
 ghost use Rattle.iff.specs.Tables.{Row, row_width, rows_in};
 ghost use Rattle.iff.specs.declared.GroupFile.TheVariants.{Xfootnote, Xchanges};
 ghost use Rattle.iff.specs.declared.File.TheVariants.{Groups};
 ghost use Rattle.iff_desk.specs.Changing.{best as best_of, best_at};
-ghost use Rattle.iff_desk.specs.declared.Best.TheVariants.{NoBest};
 ghost use Rattle.keys.specs.Blocks.{rows_between};
 ghost use Rattle.slots.specs.Slots.{Index};
 ghost use Rattle.store.specs.Found.{Stored};
 ghost use Rattle.exception_rows.specs.Rows.{applies_by};
 
 use iff::{File, GroupFile};
-use iff_desk::{Best, Riding};
+use iff_desk::Riding;
 
 // The best of the rows from `from` on and before `to` that apply.
 fn best_in(
@@ -29,18 +28,16 @@ fn best_in(
     a: Riding,
     b: Riding,
     day: u64,
-) -> Best
+) -> Option<iff_desk::Best>
     requires { (to * row_width (Groups Xchanges) ≤ length t.now) × Stored (Groups Xfootnote) used xfootnotes.now }
     ensures { result
-        ≡ best_of NoBest
+        ≡ best_of None
         (kept (applies_by (rows_in (Groups Xfootnote) xfootnotes.now) a b day)
         (rows_between (row_width (Groups Xchanges)) t.now from to)) }
 {
-    let mut best = Best::NoBest;
-    let mut i = from;
-    while i < to {
+    let mut best = None;
+    for i in from..to {
         best = exception_rows::best_with(t, i, best, xfootnotes, used, places, a, b, day);
-        i += 1;
     }
     best
 }
@@ -57,7 +54,7 @@ pub fn best_at(
     a: Riding,
     b: Riding,
     day: u64,
-) -> Best
+) -> Option<iff_desk::Best>
     requires { Stored (Groups Xchanges) used xchanges.now
         × Stored (Groups Xfootnote) footnotes_used xfootnotes.now
         × Index (Groups Xchanges) xchanges.now used (length heads.now) heads.now }

@@ -1,5 +1,5 @@
 -- What a caller in another language is promised.
-use Rattle.std.specs.Prelude.{ℕ, ◌≡◌, List, ℤ}
+use Rattle.std.specs.Prelude.{ℕ, ◌≡◌, List, ℤ, Result}
 use Rattle.iff.specs.Files.{PerFile, of}
 use Rattle.iff.specs.Lines.{lines}
 use Rattle.iff.specs.declared.File.{File}
@@ -8,7 +8,6 @@ use Rattle.iff_desk.specs.Amend.{amend_answer, amend_timetbls}
 use Rattle.iff_desk.specs.Answers.{part_number}
 use Rattle.iff_desk.specs.Sheet.{sheet_test}
 use Rattle.iff_desk.specs.Parts.{name, name_test, is_one_block, lines_now, lines_now_test}
-use Rattle.iff_desk.specs.declared.StopTime.{StopTime}
 use Rattle.iff_desk.specs.declared.Change.{Change}
 use Rattle.numbers.specs.Numbers.{answer_words}
 use Rattle.question_numbers.specs.Numbers.{part_words, lines_words, stop_time_words, stop_time_minutes}
@@ -17,6 +16,8 @@ use Rattle.sheet_answers.specs.Words.{sheet_list}
 use Rattle.parts.specs.Bounds.{part_of, Inside}
 use Rattle.station_names.specs.Names.{name_part}
 use Rattle.service_lines.specs.Bounds.{text_now, part_now}
+use Rattle.iff.specs.declared.Reason.{Reason}
+use Rattle.iff_desk.specs.declared.StopTimes.{StopTimes}
 
 -- A LOAD, as `load::load` promises it, with its answer in numbers
 pub record LoadedInNumbers (F : PerFile (List ℕ)) (R : PerFile ℕ) (words : List ℕ) (T : PerFile (List ℕ)) : Type 0 where
@@ -42,11 +43,11 @@ pub record LinesInNumbers (text block : List ℕ) (service : ℕ) (words : List 
   pub part : part_of (text_now text block service) (part_now text block service).from (part_now text block service).to ≡ lines_now text block service
 
 -- A STOP'S TIMES, and a CHANGE: numbers, and minutes, which have a sign
-pub record TimedInNumbers (a : StopTime) (words : List ℕ) (minutes : List ℤ) : Type 0 where
+pub record TimedInNumbers (a : Result StopTimes Reason) (words : List ℕ) (minutes : List ℤ) : Type 0 where
   pub answers : words ≡ stop_time_words a
   pub times : minutes ≡ stop_time_minutes a
 
-pub record ChangedInNumbers (a : Change) (words : List ℕ) (minutes : List ℤ) : Type 0 where
+pub record ChangedInNumbers (a : Result Change Reason) (words : List ℕ) (minutes : List ℤ) : Type 0 where
   pub answers : words ≡ change_words a
   pub gap : minutes ≡ change_gap a
 

@@ -8,7 +8,7 @@ ghost use Rattle.iff.specs.Bytes.{zero_or_one};
 ghost use Rattle.iff.specs.Columns.{column, fits, figure, figures};
 ghost use Rattle.iff.specs.Values.{all_blank, is_wildcard, company_or_any, bits, stop_of};
 
-// Columns beside a picture. Each loop counts down the pairs that are left to compare.
+// Columns beside a picture.
 
 // A comma in a gap, an allowed byte elsewhere.
 fn is_column(b: u8, mark: u8) -> bool
@@ -27,15 +27,9 @@ pub fn fits_picture(line: &[u8], picture: &[u8]) -> bool
     if line.len() != picture.len() {
         return false;
     }
-    let mut columns_left = line.len();
-    while 0 < columns_left {
-        let i = line.len() - columns_left;
-        if !is_column(line[i], picture[i]) {
-            return false;
-        }
-        columns_left -= 1;
-    }
-    true
+    line.iter()
+        .zip(picture)
+        .all(|(b, mark)| is_column(*b, *mark))
 }
 
 // A digit where the picture has a number, a mark where it has a vector.
@@ -58,15 +52,9 @@ pub fn has_figures(line: &[u8], picture: &[u8]) -> bool
     if line.len() != picture.len() {
         return false;
     }
-    let mut figures_left = line.len();
-    while 0 < figures_left {
-        let i = line.len() - figures_left;
-        if !is_figure(line[i], picture[i]) {
-            return false;
-        }
-        figures_left -= 1;
-    }
-    true
+    line.iter()
+        .zip(picture)
+        .all(|(b, mark)| is_figure(*b, *mark))
 }
 
 // Fields.
@@ -74,27 +62,17 @@ pub fn has_figures(line: &[u8], picture: &[u8]) -> bool
 pub fn all_blank(field: &[u8]) -> bool
     ensures { result ≡ all_blank field.now }
 {
-    let mut blanks: usize = 0;
-    while blanks < field.len() {
-        if field[blanks] != b' ' {
-            return false;
-        }
-        blanks += 1;
-    }
-    true
+    field.iter().all(|b| *b == b' ')
 }
 
 // `*` followed by blanks, at any width. An empty field is none.
 pub fn is_wildcard(field: &[u8]) -> bool
     ensures { result ≡ is_wildcard field.now }
 {
-    if field.len() == 0 {
-        return false;
+    match field {
+        [b'*', behind @ ..] => all_blank(behind),
+        _ => false,
     }
-    if field[0] != b'*' {
-        return false;
-    }
-    all_blank(&field[1..])
 }
 
 // A company's number, or the wildcard's own code.
@@ -115,9 +93,7 @@ pub fn mark_word(marks: &[u8]) -> u64
     ensures { result ≡ bits 64 marks.now }
 {
     let mut word: u64 = 0;
-    let mut i: usize = 64;
-    while 0 < i {
-        i -= 1;
+    for i in (0..64).rev() {
         word = word * 2 + text::byte_value(text::byte_at(marks, i), b'0');
     }
     word

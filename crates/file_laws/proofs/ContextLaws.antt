@@ -1,9 +1,10 @@
 -- What a file's verdict asks of the other files, and no more: so a table that is not yet read may stand for it. Assumes nothing.
+use Rattle.std.specs.Prelude.{Err, Ok}
 use Prim.Native.Nat.{ℕ}
 use mathlib.Core.Path.{◌≡◌, refl, sym, ◌∙◌}
 use mathlib.Core.List.{List, [], ◌∷◌}
 use mathlib.Core.Bool.{true}
-use Rattle.iff.specs.Refusals.{or_else, fine}
+use Rattle.iff.specs.Refusals.{or_else, fine, Verdict}
 use Rattle.iff.specs.Files.{PerFile, of, eleven}
 use Rattle.iff.specs.Lines.{Line, lines}
 use Rattle.iff.specs.declared.RowFile.{RowFile}
@@ -13,8 +14,6 @@ use Rattle.iff.specs.declared.GroupFile.TheVariants.{Timezone, Footnote, Changes
 use Rattle.iff.specs.declared.File.{File}
 use Rattle.iff.specs.declared.File.TheVariants.{Delivery, Rows, Groups, Timetbls}
 use Rattle.iff.specs.declared.Form.{Form}
-use Rattle.iff.specs.declared.Verdict.{Verdict}
-use Rattle.iff.specs.declared.Verdict.TheVariants.{Fine, Fault}
 use Rattle.iff_rules.specs.References.{met_by_row, met_in_group, met_in_block}
 use Rattle.iff_rules.specs.Rows.{Context}
 use Rattle.iff_rules.specs.Load.{plain_test, plain_verdict, group_test, group_verdict, groups_verdict, block_test, block_verdict, timetbls_verdict, delivery_verdict, file_verdict}
@@ -98,12 +97,12 @@ same_verdict c d h f ls p q = asks_only c h f ls ∙ (λ i. file_verdict (asking
 
 -- a verdict handed on, and what is asked only where there was no fault before
 pub advance : (v : Verdict) {r : Verdict} (x y : Verdict) → r ≡ or_else v x → (fine v ≡ true → x ≡ y) → r ≡ or_else v y
-advance Fine x y e h = e ∙ h refl
-advance (Fault k p) x y e h = e
+advance (Ok _) x y e h = e ∙ h refl
+advance (Err fault) x y e h = e
 
 pub back : (v : Verdict) {r : Verdict} (x : Verdict) → r ≡ or_else v x → fine r ≡ true → fine v ≡ true
-back Fine x e g = refl
-back (Fault k p) x e g = rw e at g
+back (Ok _) x e g = refl
+back (Err fault) x e g = rw e at g
 
 pub delivery_back : {text : List ℕ} {v : Verdict} {was is : List ℕ} {r : Verdict} → DeliveryRead text v was is r → fine r ≡ true → fine v ≡ true
 delivery_back {text} {v} d g = back v (delivery_verdict (lines text)) d.verdict g

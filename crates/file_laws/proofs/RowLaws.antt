@@ -1,4 +1,5 @@
 -- The rows that the lines of an accepted file leave are in use, and no more than its lines. Assumes nothing.
+use Rattle.std.specs.Prelude.{Ok}
 use Prim.Native.Nat.{ℕ, suc, ◌+◌, ◌/◌, ◌≤◌}
 use mathlib.Core.Path.{◌≡◌, refl, ap}
 use mathlib.Core.List.{List, [], ◌∷◌, map}
@@ -8,7 +9,7 @@ use native.Mathlib.Omega.{arith}
 use lib.Dec.{eqb}
 use lib.ListN.{length, length-append}
 use Rattle.iff.specs.Lists.{Group, front, groups, members}
-use Rattle.iff.specs.Refusals.{scan}
+use Rattle.iff.specs.Refusals.{scan, Verdict, at_place}
 use Rattle.iff.specs.Lines.{Line, letter, is_hash}
 use Rattle.iff.specs.Values.{words, field_words}
 use Rattle.iff.specs.Tables.{row_width, padded, fill, keys_of}
@@ -18,9 +19,6 @@ use Rattle.iff.specs.declared.GroupFile.TheVariants.{Timezone, Footnote, Changes
 use Rattle.iff.specs.declared.File.{File}
 use Rattle.iff.specs.declared.File.TheVariants.{Delivery, Rows, Groups, Timetbls}
 use Rattle.iff.specs.declared.Form.{Form}
-use Rattle.iff.specs.declared.Place.TheVariants.{At}
-use Rattle.iff.specs.declared.Verdict.{Verdict}
-use Rattle.iff.specs.declared.Verdict.TheVariants.{Fine}
 use Rattle.iff_rules.specs.Order.{known_in_group, known_in_block, tag_of}
 use Rattle.iff_rules.specs.Rows.{row_of, block_rows_from, block_rows, blocks_rows, blocks_of, stops_in, lines_in, first_row_of, later_rows, rows_of_lines, Context}
 use Rattle.iff_rules.specs.Load.{group_test, group_verdict, groups_verdict, block_test, block_verdict, timetbls_verdict, stray_verdict, file_verdict, Between, block_start}
@@ -38,9 +36,9 @@ use Rattle.keys.proofs.Fills.{keys_in_fill}
 
 -- LINES THAT PASSED
 -- what every entry of a scan without fault has
-module _ {S A : Type 0} (test : S → ℕ → A → Verdict) (next : S → A → S) (P : A → Type 0) (h : (st : S) (i : ℕ) (x : A) → test st i x ≡ Fine → P x)
+module _ {S A : Type 0} (test : S → ℕ → A → Verdict) (next : S → A → S) (P : A → Type 0) (h : (st : S) (i : ℕ) (x : A) → test st i x ≡ Ok tt → P x)
   where
-    scan_each : (st : S) (i : ℕ) (xs : List A) → scan test next st i xs ≡ Fine → Each P xs
+    scan_each : (st : S) (i : ℕ) (xs : List A) → scan test next st i xs ≡ Ok tt → Each P xs
     unfolding scan
     scan_each st i [] e = tt
     scan_each st i (x ∷ xs) e =
@@ -72,14 +70,14 @@ module _ (c : Context) (f : GroupFile) where
   abbrev InFile : Line → Type 0
   InFile l = Known (known_in_group f) l
 
-  group_known : (seen : List ℕ) (i : ℕ) (g : Group Line) → group_verdict c f seen i g ≡ Fine → Each InFile (members g)
+  group_known : (seen : List ℕ) (i : ℕ) (g : Group Line) → group_verdict c f seen i g ≡ Ok tt → Each InFile (members g)
   unfolding group_verdict group_test
   group_known seen i g e =
       scan_each _ _ InFile
-      (λ earlier k l q. ((line_passes _).0 (verdict_fine (At (Groups f) 0 k) (group_test c f seen earlier l) q)).is_known)
+      (λ earlier k l q. ((line_passes _).0 (verdict_fine (at_place (Groups f) 0 k) (group_test c f seen earlier l) q)).is_known)
       [] i (members g) (cons_fine _ _ e).0
 
-  groups_known : (ls : List Line) → groups_verdict c f ls ≡ Fine → Each InFile ls
+  groups_known : (ls : List Line) → groups_verdict c f ls ≡ Ok tt → Each InFile ls
   unfolding groups_verdict
   groups_known ls e =
       let p = cons_fine (stray_verdict (Groups f) (known_in_group f) (front is_hash ls)) _ e in
@@ -92,14 +90,14 @@ module _ (c : Context) where
   abbrev InBlocks : Line → Type 0
   InBlocks l = Known known_in_block l
 
-  block_known : (seen : List ℕ) (o : ℕ) (g : Group Line) → block_verdict c seen o g ≡ Fine → Each InBlocks (members g)
+  block_known : (seen : List ℕ) (o : ℕ) (g : Group Line) → block_verdict c seen o g ≡ Ok tt → Each InBlocks (members g)
   unfolding block_verdict block_test
   block_known seen o g e =
       scan_each _ _ InBlocks
-      (λ st j l q. ((line_passes _).0 (verdict_fine (At Timetbls o j) (block_test c seen st l) q)).is_known)
+      (λ st j l q. ((line_passes _).0 (verdict_fine (at_place Timetbls o j) (block_test c seen st l) q)).is_known)
       block_start 1 (members g) (cons_fine _ _ e).0
 
-  blocks_known : (ls : List Line) → timetbls_verdict c ls ≡ Fine → Each (λ g. Each InBlocks (members g)) (blocks_of ls)
+  blocks_known : (ls : List Line) → timetbls_verdict c ls ≡ Ok tt → Each (λ g. Each InBlocks (members g)) (blocks_of ls)
   unfolding timetbls_verdict
   blocks_known ls e =
       let p = cons_fine (stray_verdict Timetbls known_in_block (front is_hash ls)) _ e in
@@ -195,13 +193,13 @@ known_tagged f (l ∷ ls) u = (known_used f (letter l) u.0, known_tagged f ls u.
 
 -- a group's rows and a block's keep a line's own letter, so the lines must have passed
 module _ (form : Form) (c : Context) (header : List ℕ) where
-  pub held_groups : (f : GroupFile) (ls : List Line) → file_verdict c header (Groups f) ls ≡ Fine → Held (Groups f) form ls
+  pub held_groups : (f : GroupFile) (ls : List Line) → file_verdict c header (Groups f) ls ≡ Ok tt → Held (Groups f) form ls
   unfolding file_verdict
   held_groups f [] e = held_none form (Groups f)
   held_groups f (l ∷ ls) e =
       held_lines form (Groups f) (λ ks. refl) l ls (known_tagged f ls (groups_known c f ls (cons_fine _ _ (cons_fine _ _ e).1).0))
 
-  pub held_timetbls : (ls : List Line) → file_verdict c header Timetbls ls ≡ Fine → Held Timetbls form ls
+  pub held_timetbls : (ls : List Line) → file_verdict c header Timetbls ls ≡ Ok tt → Held Timetbls form ls
   unfolding file_verdict rows_of_lines
   held_timetbls [] e = held_none form Timetbls
   held_timetbls (l ∷ ls) e =

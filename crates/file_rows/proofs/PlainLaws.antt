@@ -1,4 +1,5 @@
 -- A line of a file without record letters: its row's tests by what the code found. Assumes nothing.
+use Rattle.std.specs.Prelude.{Err, Ok, Result}
 use Prim.Native.Nat.{ℕ, suc, ◌+◌, ◌*◌, ◌≤◌}
 use mathlib.Core.Path.{◌≡◌, refl, sym, ◌∙◌}
 use mathlib.Core.List.{List, [], ◌∷◌}
@@ -7,15 +8,13 @@ use native.Mathlib.Omega.{arith}
 use lib.Dec.{eqb}
 use lib.ListN.{length}
 use Rattle.iff.specs.Lists.{has}
-use Rattle.iff.specs.Refusals.{first_test, unless}
+use Rattle.iff.specs.Refusals.{first_test, unless, Test}
 use Rattle.iff.specs.Lines.{Line, lines, letter}
 use Rattle.iff.specs.Tables.{Row, word, tag, letterless, row_width, key_tag, key_word, padded, put_row}
 use Rattle.iff.specs.declared.RowFile.{RowFile}
 use Rattle.iff.specs.declared.File.TheVariants.{Rows}
 use Rattle.iff.specs.declared.Form.{Form}
 use Rattle.iff.specs.declared.Reason.TheVariants.{Value, Duplicate, Reference}
-use Rattle.iff.specs.declared.Test.{Test}
-use Rattle.iff.specs.declared.Test.TheVariants.{Passes, Fails}
 use Rattle.iff_rules.specs.Rows.{row_of, Context}
 use Rattle.iff_rules.specs.Meaning.{row_meaning}
 use Rattle.iff_rules.specs.Unique.{fresh_key, fresh_texts}
@@ -34,8 +33,6 @@ use Rattle.tables.proofs.Put.{length_put}
 use Rattle.records.proofs.FileLaws.{row_fields, row_length, row_tag, row_put, row_room}
 use Rattle.fresh_keys.specs.Runs.{run_of}
 use Rattle.fresh_keys.specs.declared.KeyRun.{KeyRun}
-use Rattle.file_rows.specs.declared.RowKept.{RowKept}
-use Rattle.file_rows.specs.declared.RowKept.TheVariants.{Key, Refused}
 use Rattle.file_rows.specs.Plain.{Earlier, LinesMarked, PlainRow, RowStored, LineAdded}
 use Rattle.file_rows.proofs.TestLaws.{plain_split}
 
@@ -55,7 +52,7 @@ module _ (f : RowFile) (count : ℕ) (before t line : List ℕ) (r : Row) (keyed
 module _ (f : RowFile) (count : ℕ) (before : List ℕ) (counts : StationCounts) (countries zones : List ℕ) (l : Line) (row was : List ℕ) (x : Test)
     (says : (c : Context) → StationKeysAmong c counts countries zones → (earlier : List Line) → Earlier c f count before was earlier
     → x ≡ plain_row_test c f earlier l row) where
-  pub row_refused : (k : Reason) → x ≡ Fails k → RowStored f count before counts countries zones l row was was (Refused k)
+  pub row_refused : (k : Reason) → x ≡ Err k → RowStored f count before counts countries zones l row was was (Err k)
   row_refused k p =
       record {
         test = λ c s earlier e. sym p ∙ says c s earlier e;
@@ -64,9 +61,9 @@ module _ (f : RowFile) (count : ℕ) (before : List ℕ) (counts : StationCounts
         kept = refl;
       }
 
-  pub row_stored : (is : List ℕ) (key w k : ℕ) → x ≡ Passes → length row ≡ w → w ≡ row_width (Rows f)
+  pub row_stored : (is : List ℕ) (key w k : ℕ) → x ≡ Ok tt → length row ≡ w → w ≡ row_width (Rows f)
       → (count + 1) * row_width (Rows f) + row_width (Rows f) ≤ length was → is ≡ put_row w was (count + 1) row
-      → k ≡ key_word (Rows f) → key ≡ word row k → RowStored f count before counts countries zones l row was is (Key key)
+      → k ≡ key_word (Rows f) → key ≡ word row k → RowStored f count before counts countries zones l row was is (Ok key)
   row_stored is key w k p n m h q d e =
       record {
         test = λ c s earlier g. sym p ∙ says c s earlier g;
@@ -82,8 +79,8 @@ module _ (f : RowFile) (form : Form) (count : ℕ) (before : List ℕ) (counts :
     layout_is : (c : Context) → c.form ≡ form → layout_test l (fields_of c.form (Rows f) (letter l)) ≡ layout_test l (record_fields form kind)
     layout_is c d = rw (row_fields c.form f (letter l), d, k)
 
-    pub line_refused : (x : Test) (r : Reason) → x ≡ layout_test l (record_fields form kind) → x ≡ Fails r
-        → LineAdded f form count before counts countries zones l was was (Refused r)
+    pub line_refused : (x : Test) (r : Reason) → x ≡ layout_test l (record_fields form kind) → x ≡ Err r
+        → LineAdded f form count before counts countries zones l was was (Err r)
     line_refused x r e p =
         record {
           test = λ c d s earlier g. sym (plain_split c f earlier l ∙ rw (layout_is c d, ← e, p));
@@ -92,7 +89,7 @@ module _ (f : RowFile) (form : Form) (count : ℕ) (before : List ℕ) (counts :
           kept = refl;
         }
 
-    module _ (x : Test) (e : x ≡ layout_test l (record_fields form kind)) (p : x ≡ Passes) (room row : List ℕ) (n : length room ≡ row_width (Rows f))
+    module _ (x : Test) (e : x ≡ layout_test l (record_fields form kind)) (p : x ≡ Ok tt) (room row : List ℕ) (n : length room ≡ row_width (Rows f))
         (w : row ≡ padded (length room) (letterless ∷ words 0 l.body (record_fields form kind))) where
       pub row_is : row ≡ row_of form (Rows f) l
       row_is = w ∙ (rw (n, k) (row_put form f l))
@@ -107,7 +104,7 @@ module _ (f : RowFile) (form : Form) (count : ℕ) (before : List ℕ) (counts :
             marked = m;
           }
 
-      pub line_added : (is : List ℕ) (r : RowKept) → RowStored f count before counts countries zones (as_line l.body) row was is r
+      pub line_added : (is : List ℕ) (r : Result ℕ Reason) → RowStored f count before counts countries zones (as_line l.body) row was is r
           → LineAdded f form count before counts countries zones l was is r
       unfolding plain_row_test fresh_texts
       line_added is r d =

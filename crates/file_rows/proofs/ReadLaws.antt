@@ -1,4 +1,5 @@
 -- The rows of a file without record letters, line by line: what is left to read is the whole. Assumes nothing.
+use Rattle.std.specs.Prelude.{Err, Ok, Result}
 use Prim.Native.Nat.{ℕ, suc, ◌+◌, ◌-◌, ◌*◌, ◌^◌, ◌≤◌, ◌<◌}
 use mathlib.Core.Path.{◌≡◌, refl, ap, sym, ◌∙◌}
 use mathlib.Core.List.{List, [], ◌∷◌, ◌++◌, map, map-append}
@@ -10,7 +11,7 @@ use lib.ListN.{length, take, drop, length-drop, length-map}
 use lib.Seq.{length-take-le, take_all}
 use Rattle.iff.specs.Lists.{kept}
 use Rattle.iff.specs.Files.{of, eleven}
-use Rattle.iff.specs.Refusals.{or_test, unless, or_else, verdict_at, scan, after}
+use Rattle.iff.specs.Refusals.{or_test, unless, or_else, verdict_at, scan, after, Verdict, at_place, fault_at}
 use Rattle.iff.specs.Lines.{Line, lines, letter}
 use Rattle.iff.specs.Columns.{fields_of, laid}
 use Rattle.iff.specs.Values.{readable}
@@ -20,9 +21,6 @@ use Rattle.iff.specs.declared.File.TheVariants.{Rows}
 use Rattle.iff.specs.declared.Form.{Form}
 use Rattle.iff.specs.declared.Reason.{Reason}
 use Rattle.iff.specs.declared.Reason.TheVariants.{Layout, Value}
-use Rattle.iff.specs.declared.Place.TheVariants.{At}
-use Rattle.iff.specs.declared.Test.TheVariants.{Passes}
-use Rattle.iff.specs.declared.Verdict.{Verdict}
 use Rattle.iff_rules.specs.Rows.{row_of, Context}
 use Rattle.iff_rules.specs.Load.{plain_test, plain_verdict}
 use Rattle.text.specs.declared.LineSpan.{LineSpan}
@@ -43,19 +41,16 @@ use Rattle.keys.proofs.Fills.{keys_in_fill, keys_next}
 use Rattle.text_numbers.specs.Numbers.{numbers_of}
 use Rattle.text_numbers.proofs.NumberLaws.{numbers_next}
 use Rattle.row_marks.specs.Remembered.{spread_of, Remembers, LineMarked}
-use Rattle.reading.specs.declared.RowsRead.TheVariants.{AllRead, Stopped}
 use Rattle.file_rows.specs.Tests.{plain_row_test}
 use Rattle.file_rows.specs.Plain.{first_in, PlainBegun, RowsOf, PlainLine, Earlier, LineAdded, test_of, kept_key}
-use Rattle.file_rows.specs.declared.RowKept.{RowKept}
-use Rattle.file_rows.specs.declared.RowKept.TheVariants.{Key, Refused}
 use Rattle.file_rows.proofs.TestLaws.{plain_split}
 
 -- a line that passes is ended
-pub passing_ended : (c : Context) (f : RowFile) (earlier : List Line) (l : Line) → Passes ≡ plain_test c f earlier l → l.ended ≡ true
+pub passing_ended : (c : Context) (f : RowFile) (earlier : List Line) (l : Line) → Ok tt ≡ plain_test c f earlier l → l.ended ≡ true
 passing_ended c f earlier l e = go l.ended refl (laid l (fields_of c.form (Rows f) (letter l))) refl (e ∙ plain_split c f earlier l)
   where
     go : (b : Bool) → l.ended ≡ b → (a : Bool) → laid l (fields_of c.form (Rows f) (letter l)) ≡ a
-        → Passes ≡ or_test (or_test (unless a Layout) (unless (readable l.body (fields_of c.form (Rows f) (letter l))) Value)) (plain_row_test c f earlier l (row_of c.form (Rows f) l))
+        → Ok tt ≡ or_test (or_test (unless a Layout) (unless (readable l.body (fields_of c.form (Rows f) (letter l))) Value)) (plain_row_test c f earlier l (row_of c.form (Rows f) l))
         → l.ended ≡ true
     go true p a q r = p
     go false p true q r = absurd (false≢true (rw p at q))
@@ -73,7 +68,7 @@ own_agrees : (form : Form) (n : StationCounts) (cy zo : List ℕ) → StationKey
 own_agrees form n cy zo = record { countries = refl; zones = refl }
 
 abbrev test_at : Context → RowFile → List Line → ℕ → Line → Verdict
-test_at c f earlier i l = verdict_at (At (Rows f) 0 i) (plain_test c f earlier l)
+test_at c f earlier i l = verdict_at (at_place (Rows f) 0 i) (plain_test c f earlier l)
 
 abbrev with_one : List Line → Line → List Line
 with_one earlier l = earlier ++ (l ∷ [])
@@ -180,12 +175,12 @@ module _ (f : RowFile) (form : Form) (text : List ℕ) (from : ℕ) (counts : St
       unfolding scan
       turn c d e = i.left c d e ∙ ap (scan (test_at c f) with_one (take j rest) (j + 2)) (cut_head text from at j s i.cut a)
 
-      module _ (is : List ℕ) (r : RowKept) (l : LineAdded f form j (take (at - from) (drop from text)) counts countries zones line t is r) where
+      module _ (is : List ℕ) (r : Result ℕ Reason) (l : LineAdded f form j (take (at - from) (drop from text)) counts countries zones line t is r) where
         test_is : (c : Context) → c.form ≡ form → StationKeysAmong c counts countries zones → test_of r ≡ plain_test c f (take j rest) line
         test_is c d e = l.test c d e (take j rest) (earlier c d)
 
-        pub stops : (k : Reason) (n : ℕ) → r ≡ Refused k → n ≡ j + 2
-            → RowsOf f form (λ c. StationKeysAmong c counts countries zones) text from was is (Stopped k (At (Rows f) 0 n))
+        pub stops : (k : Reason) (n : ℕ) → r ≡ Err k → n ≡ j + 2
+            → RowsOf f form (λ c. StationKeysAmong c counts countries zones) text from was is (fault_at k (at_place (Rows f) 0 n))
         stops k n p q =
             record {
               verdict = λ c d e. sym (turn c d e ∙ rw (← (test_is c d e), p, q));
@@ -194,8 +189,8 @@ module _ (f : RowFile) (form : Form) (text : List ℕ) (from : ℕ) (counts : St
               kept = l.kept ∙ length_is t j (omega (arith, more)) i.holds;
             }
 
-        module _ (key : ℕ) (p : r ≡ Key key) where
-          passes : test_of r ≡ Passes
+        module _ (key : ℕ) (p : r ≡ Ok key) where
+          passes : test_of r ≡ Ok tt
           passes = ap test_of p
 
           ended : s.ended ≡ true
@@ -267,7 +262,7 @@ module _ (f : RowFile) (form : Form) (text : List ℕ) (from : ℕ) (counts : St
       all_read : take j rest ≡ rest
       all_read = take_all j rest (omega (arith, ap length none_left, length-drop j rest))
 
-      pub ends : RowsOf f form (λ c. StationKeysAmong c counts countries zones) text from was t (AllRead run.rises)
+      pub ends : RowsOf f form (λ c. StationKeysAmong c counts countries zones) text from was t (Ok run.rises)
       unfolding scan
       ends =
           record {

@@ -1,4 +1,5 @@
 -- A whole file of rows. Assumes nothing.
+use Rattle.std.specs.Prelude.{Bool, Result}
 use Prim.Native.Nat.{ℕ}
 use mathlib.Core.Path.{◌≡◌, ap, ◌∙◌}
 use mathlib.Core.List.{List, [], ◌∷◌, append-nil}
@@ -9,9 +10,9 @@ use Rattle.iff.specs.declared.RowFile.{RowFile}
 use Rattle.iff.specs.declared.File.TheVariants.{Rows}
 use Rattle.iff.specs.declared.Form.{Form}
 use Rattle.iff_rules.specs.Rows.{Context}
-use Rattle.reading.specs.declared.RowsRead.{RowsRead}
 use Rattle.reading.specs.Reading.{head_line, Begun, Split}
 use Rattle.file_rows.specs.Plain.{first_in, PlainBegun, RowsOf}
+use Rattle.iff.specs.declared.Fault.{Fault}
 
 -- the row that begins a table stands first in it
 first_in_lem : (f : RowFile) (n : ℕ) (first : Row) (t : List ℕ) → length first ≡ row_width (Rows f) → t ≡ fill (row_width (Rows f)) n (first ∷ [])
@@ -30,7 +31,7 @@ plain_begun f text t from s =
     }
 
 -- rows that were read for every context of some are so for each of fewer
-pub for_fewer : (f : RowFile) (form : Form) (Agree Fewer : Context → Type 0) (text : List ℕ) (from : ℕ) (was is : List ℕ) (r : RowsRead)
+pub for_fewer : (f : RowFile) (form : Form) (Agree Fewer : Context → Type 0) (text : List ℕ) (from : ℕ) (was is : List ℕ) (r : Result Bool Fault)
     → ((c : Context) → Fewer c → Agree c) → RowsOf f form Agree text from was is r → RowsOf f form Fewer text from was is r
 for_fewer f form Agree Fewer text from was is r a d =
     record { verdict = λ c e g. d.verdict c e (a c g); table = d.table; rises = d.rises; kept = d.kept }

@@ -1,13 +1,12 @@
 -- The tests of a row of a file of rows, as the code makes them once its line's layout and values are right; and by which way its file is read.
 use Rattle.std.specs.Prelude.{ℕ, Bool, true, false, List, [], ◌∷◌, map, length}
-use Rattle.iff.specs.Refusals.{first_test, unless}
+use Rattle.iff.specs.Refusals.{first_test, unless, Test}
 use Rattle.iff.specs.Lines.{Line}
 use Rattle.iff.specs.Tables.{Row, keys_of}
 use Rattle.iff.specs.declared.RowFile.{RowFile}
 use Rattle.iff.specs.declared.RowFile.TheVariants.{Company, Country, Trnsmode, Stations}
 use Rattle.iff.specs.declared.File.TheVariants.{Rows}
 use Rattle.iff.specs.declared.Reason.TheVariants.{Value, Duplicate, Reference}
-use Rattle.iff.specs.declared.Test.{Test}
 use Rattle.iff_rules.specs.Rows.{row_of, Context}
 use Rattle.iff_rules.specs.Meaning.{row_meaning}
 use Rattle.iff_rules.specs.Unique.{fresh_key, fresh_texts}

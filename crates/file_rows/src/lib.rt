@@ -14,16 +14,8 @@ ghost use Rattle.file_rows.specs.Tests.{plain_row_test, long_from, names_others}
 ghost use Rattle.file_rows.specs.Plain.{PlainRow, PlainLine, Earlier, RowStored, LineAdded, PlainBegun, RowsOf};
 
 use fresh_keys::KeyRun;
-use iff::{File, Form, GroupFile, Place, Reason, RowFile, Test};
-use reading::RowsRead;
+use iff::{File, Form, GroupFile, Reason, RowFile, Test};
 use references::StationCounts;
-
-// A row that was kept has a key; one that was not, a reason.
-#[derive(Clone, Copy)]
-pub enum RowKept {
-    Key(u64),
-    Refused(Reason),
-}
 
 // The tests of a row, in their order: values, duplicates by key and by text, references.
 fn plain_row_test(
@@ -46,22 +38,22 @@ fn plain_row_test(
         → result ≡ plain_row_test c file earlier (as_line line.now) row.now }
 {
     if !meanings::row_means(file, count, row) {
-        return Test::Fails(Reason::Value);
+        return Err(Reason::Value);
     }
     let k = keys::key_word(File::Rows(file));
     if !row_marks::is_key_new(file, marks, run, t, row[k]) {
-        return Test::Fails(Reason::Duplicate);
+        return Err(Reason::Duplicate);
     }
     if !row_marks::are_texts_new(file, marks, before, line) {
-        return Test::Fails(Reason::Duplicate);
+        return Err(Reason::Duplicate);
     }
     if !row_references::met_by_row(file, row, countries, zones, counts, places) {
-        return Test::Fails(Reason::Reference);
+        return Err(Reason::Reference);
     }
-    Test::Passes
+    Ok(())
 }
 
-// A row's tests, and the row put after those that are there.
+// A row's tests, and the row put after those that are there: its key.
 fn store_row(
     file: RowFile,
     count: usize,
@@ -75,24 +67,20 @@ fn store_row(
     counts: StationCounts,
     places: &[u32],
     marks: &[u8],
-) -> RowKept
+) -> Result<u64, iff::Reason>
     requires { PlainRow file row.now before.now t.old run marks.now × PlainLine file count before.now t.old run marks.now }
     ensures { RowStored file count before.now counts countries.now zones.now
         (as_line line.now) row.now t.old t.new result }
 {
-    match plain_row_test(
+    plain_row_test(
         file, count, run, before, line, row, t, countries, zones, counts, places, marks,
-    ) {
-        Test::Fails(r) => RowKept::Refused(r),
-        Test::Passes => {
-            let k = keys::key_word(File::Rows(file));
-            table_writes::put_row(t, row.len(), count + 1, row);
-            RowKept::Key(row[k])
-        }
-    }
+    )?;
+    let k = keys::key_word(File::Rows(file));
+    table_writes::put_row(t, row.len(), count + 1, row);
+    Ok(row[k])
 }
 
-// A line's row read into `row`, its tests, and the row put after those that are there.
+// A line's row read into `row`, its tests, and the row put after those that are there: its key.
 fn add_row(
     file: RowFile,
     form: Form,
@@ -108,21 +96,19 @@ fn add_row(
     counts: StationCounts,
     places: &[u32],
     marks: &[u8],
-) -> RowKept
+) -> Result<u64, iff::Reason>
     requires { (length row.old ≡ row_width (Rows file)) × PlainLine file count before.now t.old run marks.now }
     ensures { LineAdded file form count before.now counts countries.now zones.now
         (line_of line.now ended) t.old t.new result }
 {
     let kind = records::row_record(file);
-    match record_lines::read_line(kind, iff::tags::LETTERLESS, form, line, ended, row) {
-        Test::Fails(r) => RowKept::Refused(r),
-        Test::Passes => store_row(
-            file, count, run, before, line, row, t, countries, zones, counts, places, marks,
-        ),
-    }
+    record_lines::read_line(kind, iff::tags::LETTERLESS, form, line, ended, row)?;
+    store_row(
+        file, count, run, before, line, row, t, countries, zones, counts, places, marks,
+    )
 }
 
-// One line: its tests, and its row put after the rows that are there.
+// One line: its tests, and its row put after the rows that are there: its key.
 fn add_line(
     file: RowFile,
     form: Form,
@@ -137,7 +123,7 @@ fn add_line(
     counts: StationCounts,
     places: &[u32],
     marks: &[u8],
-) -> RowKept
+) -> Result<u64, iff::Reason>
     requires { PlainLine file count before.now t.old run marks.now }
     ensures { LineAdded file form count before.now counts countries.now zones.now
         (line_of line.now ended) t.old t.new result }
@@ -174,7 +160,7 @@ fn add_rows(
     counts: StationCounts,
     places: &[u32],
     marks: &mut [u8],
-) -> RowsRead
+) -> Result<bool, iff::Fault>
     requires { PlainBegun file text.now from t.old × Remembers marks.old [] }
     ensures { RowsOf file form (λ c. StationKeysAmong c counts countries.now zones.now)
         text.now from t.old t.new result }
@@ -182,6 +168,7 @@ fn add_rows(
     let mut run = fresh_keys::no_keys();
     let mut at = from;
     let mut count: usize = 0;
+    // A loop by hand: each line is held against the bytes before it, so where it begins is needed, and a line alone does not tell that.
     while at < text.len() {
         let s = text::line_at(text, at);
         let end = s.end;
@@ -202,13 +189,17 @@ fn add_rows(
             places,
             marks,
         ) {
-            RowKept::Refused(r) => {
-                return RowsRead::Stopped(
-                    r,
-                    Place::At(File::Rows(file), 0, reading::line_number(count + 1)),
-                );
+            Err(r) => {
+                return Err(iff::Fault {
+                    reason: r,
+                    place: Some(iff::Place {
+                        file: File::Rows(file),
+                        ordinal: 0,
+                        line: reading::line_number(count + 1),
+                    }),
+                });
             }
-            RowKept::Key(key) => {
+            Ok(key) => {
                 run = fresh_keys::next_run(run, key);
                 row_marks::mark_line(file, marks, key, &text[at..end]);
                 at = next;
@@ -216,7 +207,7 @@ fn add_rows(
             }
         }
     }
-    RowsRead::AllRead(run.rises)
+    Ok(run.rises)
 }
 
 // The same, with nothing marked yet.
@@ -230,7 +221,7 @@ fn read_marked(
     zones: &[u64],
     counts: StationCounts,
     places: &[u32],
-) -> RowsRead
+) -> Result<bool, iff::Fault>
     requires { PlainBegun file text.now from t.old }
     ensures { RowsOf file form (λ c. StationKeysAmong c counts countries.now zones.now)
         text.now from t.old t.new result }
@@ -252,7 +243,7 @@ fn read_indexed(
     countries: &[u64],
     zones: &[u64],
     counts: StationCounts,
-) -> RowsRead
+) -> Result<bool, iff::Fault>
     requires { PlainBegun file text.now from t.old }
     ensures { RowsOf file form (λ c. StationKeysAmong c counts countries.now zones.now)
         text.now from t.old t.new result }
@@ -283,7 +274,7 @@ fn read_short(
     countries: &[u64],
     zones: &[u64],
     counts: StationCounts,
-) -> RowsRead
+) -> Result<bool, iff::Fault>
     requires { PlainBegun file text.now from t.old }
     ensures { RowsOf file form (λ c. StationKeysAmong c counts countries.now zones.now)
         text.now from t.old t.new result }
@@ -328,7 +319,7 @@ fn names_others(file: RowFile) -> bool
     }
 }
 
-// The rows of a file after its first line, by whichever way is quickest.
+// The rows of a file after its first line, by whichever way is quickest: whether their keys rise.
 pub fn read_rows(
     file: RowFile,
     form: Form,
@@ -337,7 +328,7 @@ pub fn read_rows(
     t: &mut [u64],
     countries: &[u64],
     zones: &[u64],
-) -> RowsRead
+) -> Result<bool, iff::Fault>
     requires { PlainBegun file text.now from t.old }
     ensures { RowsOf file form (λ c. StationKeys c countries.now zones.now)
         text.now from t.old t.new result }

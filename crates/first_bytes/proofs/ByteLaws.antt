@@ -1,28 +1,22 @@
--- Laws of a search for one byte: what is left is the whole. Assumes nothing.
-use Prim.Native.Nat.{ℕ, ◌+◌, ◌≤◌, ◌<◌}
-use mathlib.Core.Path.{◌≡◌, sym, ◌∙◌}
-use mathlib.Core.List.{List}
-use mathlib.Core.Bool.{Bool, true, false, ◌||◌}
-use native.Mathlib.Omega.{arith}
-use native.Mathlib.Numerals.{add-one}
-use lib.ListN.{length, get_or, drop, drop_of_length-le}
-use lib.Seq.{drop-cons}
-use Rattle.iff.specs.Lists.{any}
+-- A byte among some. Assumes nothing.
+use Prim.Native.Nat.{ℕ}
+use mathlib.Core.Path.{◌≡◌, refl, sym}
+use mathlib.Core.List.{List, [], ◌∷◌}
+use mathlib.Core.Bool.{Bool, true, false}
+use borrow.Author.Tests.{eq-eqb, ne_eqb, eqb-true, eqb-false}
+use lib.Dec.{eqb}
+use Rattle.std.specs.List.{list_any}
+use Rattle.iff.specs.Lists.{has, any}
 
-module _ (p : ℕ → Bool) (s : List ℕ) (i : ℕ) where
-  abbrev pub Seeking : Type 0
-  Seeking = (i ≤ length s) × (any p s ≡ any p (drop i s))
+either_way : (a b : ℕ) → eqb a b ≡ eqb b a
+either_way a b = go (eqb b a) refl
+  where
+    go : (t : Bool) → eqb b a ≡ t → eqb a b ≡ t
+    go true e = eq-eqb a b (sym (eqb-true b a e))
+    go false e = ne_eqb a b (λ q. eqb-false b a e (sym q))
 
-  seeks_at : i < length s → any p (drop i s) ≡ (p (get_or s i 0) || any p (drop (i + 1) s))
-  unfolding any
-  seeks_at h = rw (add-one, drop-cons s i 0 h)
-
-  pub finds : i < length s → p (get_or s i 0) ≡ true → Seeking → true ≡ any p s
-  finds h e l = sym (l.1 ∙ seeks_at h ∙ rw e)
-
-  pub finds_none : length s ≤ i → Seeking → false ≡ any p s
-  unfolding any
-  finds_none h l = sym (l.1 ∙ rw (drop_of_length-le s h))
-
-pub seeks_on : (p : ℕ → Bool) (s : List ℕ) (i : ℕ) → i < length s → p (get_or s i 0) ≡ false → Seeking p s i → Seeking p s (i + 1)
-seeks_on p s i h e l = (omega arith, l.1 ∙ seeks_at p s i h ∙ rw e)
+-- std's word for the same test
+pub has_is : (b : ℕ) (s : List ℕ) → list_any (λ x. eqb x b) s ≡ has b s
+unfolding any
+has_is b [] = refl
+has_is b (x ∷ s) = rw (either_way x b, has_is b s)

@@ -11,14 +11,7 @@ use iff::GroupFile;
 fn has_byte(bytes: &[u8], b: u8) -> bool
     ensures { result ≡ has b bytes.now }
 {
-    let mut i: usize = 0;
-    while i < bytes.len() {
-        if b == bytes[i] {
-            return true;
-        }
-        i += 1;
-    }
-    false
+    bytes.contains(&b)
 }
 
 // A first byte that a file of groups knows.

@@ -1,10 +1,9 @@
 -- The files up to FOOTNOTE, read one after the other: what their readers ask and tell.
 use Rattle.std.specs.Prelude.{ℕ, ◌≡◌, List}
-use Rattle.iff.specs.Refusals.{or_else}
+use Rattle.iff.specs.Refusals.{or_else, Verdict}
 use Rattle.iff.specs.declared.RowFile.TheVariants.{Company, Country, Trnsmode, Stations}
 use Rattle.iff.specs.declared.GroupFile.TheVariants.{Timezone, Footnote}
 use Rattle.iff.specs.declared.File.TheVariants.{Delivery, Rows, Groups}
-use Rattle.iff.specs.declared.Verdict.{Verdict}
 use Rattle.iff_rules.specs.Rows.{form_of}
 use Rattle.references.specs.Agree.{StationKeys, GroupKeys}
 use Rattle.references.specs.Company.{company_named}

@@ -7,7 +7,7 @@ use lib.Dec.{eqb, lit≤}
 use native.Mathlib.Omega.{arith}
 use lib.ListN.{length, set}
 use Rattle.iff.specs.Bytes.{at}
-use Rattle.iff.specs.Refusals.{first_test, unless}
+use Rattle.iff.specs.Refusals.{first_test, unless, Test}
 use Rattle.iff.specs.Lines.{Line, letter}
 use Rattle.iff.specs.Columns.{first_fields, record_fields, laid, fits, picture}
 use Rattle.iff.specs.Values.{words, field_words, readable}
@@ -18,7 +18,6 @@ use Rattle.iff.specs.declared.GroupFile.TheVariants.{Timezone, Footnote, Changes
 use Rattle.iff.specs.declared.Form.{Form}
 use Rattle.iff.specs.declared.Record.TheVariants.{FirstRecord}
 use Rattle.iff.specs.declared.Reason.TheVariants.{Layout, Value, FirstLine, Order, Duplicate, Reference}
-use Rattle.iff.specs.declared.Test.{Test}
 use Rattle.iff_rules.specs.Order.{line_test}
 use Rattle.iff_rules.specs.Rows.{flag, line_one, first_row_of}
 use Rattle.iff_rules.specs.Meaning.{first_meaning}

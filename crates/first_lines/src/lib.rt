@@ -40,21 +40,21 @@ pub fn first_line(line: &[u8], ended: bool, header: &[u8]) -> Test
     ensures { result ≡ first_line_test (same line.now header.now) (line_of line.now ended) }
 {
     if text::first_byte(line) != b'@' {
-        return Test::Fails(Reason::Order);
+        return Err(Reason::Order);
     }
     if !record_lines::is_laid(Record::FirstRecord, ANY_FORM, line, ended) {
-        return Test::Fails(Reason::Layout);
+        return Err(Reason::Layout);
     }
     if !text::same_bytes(line, header) {
-        return Test::Fails(Reason::FirstLine);
+        return Err(Reason::FirstLine);
     }
     if !record_lines::is_readable(Record::FirstRecord, ANY_FORM, line) {
-        return Test::Fails(Reason::Value);
+        return Err(Reason::Value);
     }
     if !days_right(line) {
-        return Test::Fails(Reason::Value);
+        return Err(Reason::Value);
     }
-    Test::Passes
+    Ok(())
 }
 
 // A flag as a word.

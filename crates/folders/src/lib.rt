@@ -25,6 +25,7 @@ fn read_full(file: &mut fs::File, buf: &mut [u8]) -> usize
     ensures { Front result buf.new }
 {
     let mut done = 0;
+    // A loop by hand: how many bytes a read gives is known only from its answer, so no range says it.
     while done < buf.len() {
         match file.read(&mut buf[done..]) {
             Ok(n) if n > 0 => done += n,

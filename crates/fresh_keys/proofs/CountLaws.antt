@@ -4,7 +4,7 @@ use mathlib.Core.Path.{◌≡◌, sym, ◌∙◌}
 use mathlib.Core.List.{List, [], ◌∷◌, map}
 use mathlib.Core.Bool.{Bool, true, false, cond}
 use native.Mathlib.Omega.{arith}
-use native.Mathlib.Nat.{add-zero, zero-add}
+use native.Mathlib.Nat.{add-zero}
 use lib.Dec.{eqb}
 use lib.ListN.{length}
 use Rattle.iff.specs.Bytes.{hash}
@@ -12,7 +12,7 @@ use Rattle.iff.specs.Lists.{kept}
 use Rattle.iff.specs.Tables.{Row, tag, is_hash_row, row_width, keys_of, rows_up_to}
 use Rattle.iff.specs.Words.{named}
 use Rattle.iff.specs.declared.File.TheVariants.{Timetbls}
-use Rattle.tables.proofs.Rest.{rest, rest_all}
+use Rattle.tables.proofs.Rest.{rest}
 
 abbrev wide : ℕ
 wide = row_width Timetbls
@@ -20,7 +20,7 @@ wide = row_width Timetbls
 abbrev pub services : List Row → ℕ
 services rs = length (keys_of Timetbls rs)
 
-pub one_small : (b : Bool) → cond b 1 0 ≤ 1
+one_small : (b : Bool) → cond b 1 0 ≤ 1
 one_small true = omega arith
 one_small false = omega arith
 
@@ -38,9 +38,6 @@ abbrev pub Reading : List ℕ → ℕ → ℕ → ℕ → Type 0
 Reading t n count i = (i ≤ n) × ((count ≤ i) × (services (rows_up_to wide n t) ≡ count + services (rest wide n t i)))
 
 module _ (t : List ℕ) (n : ℕ) where
-  pub none_read : Reading t n 0 0
-  none_read = (omega arith, (omega arith, rw (zero-add, rest_all)))
-
   module _ (count i : ℕ) (c : Reading t n count i) where
     pub all_read : rest wide n t i ≡ [] → count ≡ services (rows_up_to wide n t)
     unfolding kept

@@ -23,14 +23,12 @@ pub fn count_services(t: &[u64]) -> u64
 {
     let rows = t.len() / tables::BLOCK_WIDTH;
     let mut count: u64 = 0;
-    let mut i = 0;
-    while i < rows {
+    for i in 0..rows {
         let tag = tables::word_at(t, tables::BLOCK_WIDTH, i, iff::words::TAG);
         if tag == 0 {
             return count;
         }
         count += one_for(tag);
-        i += 1;
     }
     count
 }

@@ -1,17 +1,12 @@
 -- Texts that no two lines may share. Assumes nothing.
-use Prim.Native.Nat.{ℕ, ◌≤◌}
-use mathlib.Core.Path.{◌≡◌, refl, ap, sym, ◌∙◌}
+use mathlib.Core.Path.{◌≡◌, refl, sym, ◌∙◌}
 use mathlib.Core.List.{List, [], ◌∷◌}
-use mathlib.Core.Bool.{Bool, true, false, ◌||◌, false≢true, or-false}
-use lib.ListN.{length, drop}
+use mathlib.Core.Bool.{true, false, ◌||◌, false≢true, or-false}
 use Rattle.iff.specs.Lists.{any}
-use Rattle.iff.specs.Lines.{Line, lines}
+use Rattle.iff.specs.Lines.{Line}
 use Rattle.iff.specs.declared.RowFile.{RowFile}
 use Rattle.iff.specs.declared.RowFile.TheVariants.{Company, Country, Trnsmode, Stations}
 use Rattle.iff_rules.specs.Unique.{unique_texts, same_text, fresh_texts}
-use Rattle.text.specs.Spans.{LineAt, span_line}
-use Rattle.text.specs.declared.LineSpan.{LineSpan}
-use Rattle.text.proofs.LineLaws.{lines_end}
 use Rattle.fresh_texts.specs.Texts.{shares_text, has_texts}
 
 -- the texts by file
@@ -38,24 +33,22 @@ unfolding fresh_texts
 fresh_none f ls l e = rw (no_texts f e, none_shared l ls)
 
 -- a loop over the lines of a text: what is left to look at is the whole
-module _ (f : RowFile) (l : Line) (before : List ℕ) (at : ℕ) where
+module _ (f : RowFile) (l : Line) (ls left : List Line) where
   abbrev pub Unshared : Type 0
-  Unshared =
-      (at ≤ length before) × (any (λ e. any (same_text l e) (unique_texts f)) (lines before) ≡ any (λ e. any (same_text l e) (unique_texts f)) (lines (drop at before)))
+  Unshared = any (λ e. any (same_text l e) (unique_texts f)) ls ≡ any (λ e. any (same_text l e) (unique_texts f)) left
 
-  pub unshared_end : length before ≤ at → Unshared → true ≡ fresh_texts f (lines before) l
+  pub unshared_end : left ≡ [] → Unshared → true ≡ fresh_texts f ls l
   unfolding fresh_texts any
-  unshared_end h i = rw (i.1, lines_end before at h)
+  unshared_end q i = rw (i, q)
 
-module _ (f : RowFile) (l : Line) (before : List ℕ) (at : ℕ) (s : LineSpan) (a : LineAt before at s) (b : Bool)
-    (e : b ≡ shares_text f l.body (span_line before at s).body) where
-  here : any (λ e. any (same_text l e) (unique_texts f)) (lines (drop at before)) ≡ (b || any (λ e. any (same_text l e) (unique_texts f)) (lines (drop s.next before)))
+module _ (f : RowFile) (l : Line) (ls left rest : List Line) (e : Line) (q : left ≡ e ∷ rest) (i : Unshared f l ls left) where
+  here : any (λ e. any (same_text l e) (unique_texts f)) ls ≡ (shares_text f l.body e.body || any (λ e. any (same_text l e) (unique_texts f)) rest)
   unfolding any
-  here = ap (any (λ e. any (same_text l e) (unique_texts f))) a.head ∙ rw (shares f l (span_line before at s), ← e)
+  here = i ∙ rw (q, shares f l e)
 
-  pub shared : b ≡ true → Unshared f l before at → false ≡ fresh_texts f (lines before) l
+  pub shared : shares_text f l.body e.body ≡ true → false ≡ fresh_texts f ls l
   unfolding fresh_texts
-  shared t i = rw (i.1, here, t)
+  shared t = rw (here, t)
 
-  pub not_shared : b ≡ false → Unshared f l before at → Unshared f l before s.next
-  not_shared t i = (a.high, i.1 ∙ (here ∙ rw t))
+  pub not_shared : shares_text f l.body e.body ≡ false → Unshared f l ls rest
+  not_shared t = here ∙ rw t

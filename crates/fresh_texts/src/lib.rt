@@ -43,15 +43,10 @@ fn same_texts(file: RowFile, a: &[u8], b: &[u8]) -> bool
 fn texts_differ(file: RowFile, before: &[u8], line: &[u8]) -> bool
     ensures { result ≡ fresh_texts file (lines before.now) (as_line line.now) }
 {
-    let mut at: usize = 0;
-    while at < before.len() {
-        let s = text::line_at(before, at);
-        let end = s.end;
-        let next = s.next;
-        if same_texts(file, line, &before[at..end]) {
+    for earlier in text_lines::lines_of(before) {
+        if same_texts(file, line, earlier.body) {
             return false;
         }
-        at = next;
     }
     true
 }

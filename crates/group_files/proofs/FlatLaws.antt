@@ -1,4 +1,5 @@
 -- Groups one after the other are the lines in one walk. Assumes nothing.
+use Rattle.std.specs.Prelude.{Err, Ok}
 use Prim.Native.Nat.{ℕ, suc, ◌+◌}
 use mathlib.Core.Path.{◌≡◌, refl, ap, sym, ◌∙◌}
 use mathlib.Core.List.{List, [], ◌∷◌, ◌++◌, map, append-nil, append_assoc}
@@ -6,16 +7,13 @@ use mathlib.Core.Bool.{Bool, true, false}
 use native.Mathlib.Omega.{arith}
 use lib.ListN.{length, length-append}
 use Rattle.iff.specs.Lists.{Group, front, groups, kept}
-use Rattle.iff.specs.Refusals.{first_test, verdict_at, or_else, first_fault, scan, after}
+use Rattle.iff.specs.Refusals.{first_test, verdict_at, or_else, first_fault, scan, after, Verdict, at_place}
 use Rattle.iff.specs.Lines.{Line, letter, is_hash}
 use Rattle.iff.specs.Tables.{Row, keys_of}
 use Rattle.iff.specs.Words.{named}
 use Rattle.iff.specs.declared.GroupFile.{GroupFile}
 use Rattle.iff.specs.declared.File.TheVariants.{Groups}
 use Rattle.iff.specs.declared.Reason.TheVariants.{Order}
-use Rattle.iff.specs.declared.Place.TheVariants.{At}
-use Rattle.iff.specs.declared.Verdict.{Verdict}
-use Rattle.iff.specs.declared.Verdict.TheVariants.{Fine, Fault}
 use Rattle.iff_rules.specs.Order.{line_test, stray_tests, known_in_group, group_stand, may_end}
 use Rattle.iff_rules.specs.Rows.{row_of, Context}
 use Rattle.iff_rules.specs.Load.{group_test, group_verdict, groups_verdict, stray_verdict, fault_unless, after_group}
@@ -25,12 +23,12 @@ use Rattle.group_files.specs.Flat.{flat}
 use Rattle.group_files.proofs.HashLaws.{row_hash, any_keys, stray_line}
 
 or_assoc : (a b c : Verdict) → or_else (or_else a b) c ≡ or_else a (or_else b c)
-or_assoc Fine b c = refl
-or_assoc (Fault r p) b c = refl
+or_assoc (Ok _) b c = refl
+or_assoc (Err fault) b c = refl
 
-or_fine : (a : Verdict) → or_else a Fine ≡ a
-or_fine Fine = refl
-or_fine (Fault r p) = refl
+or_fine : (a : Verdict) → or_else a (Ok tt) ≡ a
+or_fine (Ok _) = refl
+or_fine (Err fault) = refl
 
 -- what stands before the first `#`, and the groups behind it
 module _ (l : Line) (ls : List Line) where
@@ -62,11 +60,11 @@ module _ (c : Context) (f : GroupFile) where
 
   -- line k, after some rows of its group
   abbrev line_in : List ℕ → List Row → ℕ → Line → Verdict
-  line_in seen g k l = verdict_at (At (Groups f) 0 k) (group_test c f seen g l)
+  line_in seen g k l = verdict_at (at_place (Groups f) 0 k) (group_test c f seen g l)
 
   -- a group of some rows ends at line k
   abbrev end_at : List Row → ℕ → Verdict
-  end_at g k = fault_unless (may_end f (group_stand g)) Order (At (Groups f) 0 k)
+  end_at g k = fault_unless (may_end f (group_stand g)) Order (at_place (Groups f) 0 k)
 
   -- ONE LINE OF THE WALK
   module _ (rows g : List Row) (l : Line) (ls : List Line) where
@@ -121,7 +119,7 @@ module _ (c : Context) (f : GroupFile) where
   unfoldable behind : List ℕ → ℕ → ℕ → List (Group Line) → Verdict
   behind seen i o gs = scan (λ b o' h. group_verdict c f b.seen b.line h) (after_group c f) (record { seen = seen; line = suc i }) o gs
 
-  behind_none : (seen : List ℕ) (i o : ℕ) → behind seen i o [] ≡ Fine
+  behind_none : (seen : List ℕ) (i o : ℕ) → behind seen i o [] ≡ Ok tt
   unfolding behind scan
   behind_none seen i o = refl
 
@@ -177,7 +175,7 @@ module _ (c : Context) (f : GroupFile) where
           let i : flat c f (put rows l) (put g l) ls ≡ ahead (put rows l) (put g l) seen o (front is_hash ls) (groups is_hash ls) =
           ih (put rows l) (put g l) seen o in
           let a : line_in (keys rows) g (suc (suc (length rows))) l ≡ line_in seen g (suc (suc (length rows))) l =
-          ap (verdict_at (At (Groups f) 0 (suc (suc (length rows))))) (any_keys c f (keys rows) seen g l h) in
+          ap (verdict_at (at_place (Groups f) 0 (suc (suc (length rows))))) (any_keys c f (keys rows) seen g l h) in
           rw (front_other l ls h, groups_other l ls h, flat_other rows g l ls h, a, held_more, m, i, put_length rows l, k)
           (sym
           (or_assoc
@@ -195,12 +193,12 @@ module _ (c : Context) (f : GroupFile) where
   unfolding groups_verdict first_fault behind
   groups_parts ls = rw or_fine
 
-  none_open : end_at [] 1 ≡ Fine
+  none_open : end_at [] 1 ≡ Ok tt
   unfolding group_stand after
   none_open = refl
 
   stray_fault : (b : Bool) (v w : Verdict)
-      → or_else (verdict_at (At (Groups f) 0 2) (line_test (stray_tests b))) v ≡ or_else (verdict_at (At (Groups f) 0 2) (line_test (stray_tests b))) w
+      → or_else (verdict_at (at_place (Groups f) 0 2) (line_test (stray_tests b))) v ≡ or_else (verdict_at (at_place (Groups f) 0 2) (line_test (stray_tests b))) w
   unfolding line_test first_test
   stray_fault true v w = refl
   stray_fault false v w = refl

@@ -1,4 +1,5 @@
 -- The walk through the lines of a file of groups: where it begins, a line further, and its ends. Assumes nothing.
+use Rattle.std.specs.Prelude.{Ok, Option, Result}
 use Prim.Native.Nat.{ℕ, zero, suc, ◌+◌, ◌-◌, ◌*◌, ◌≤◌, ◌<◌}
 use mathlib.Core.Path.{◌≡◌, refl, ap, sym, ◌∙◌, subst, subst}
 use mathlib.Core.List.{List, [], ◌∷◌, ◌++◌, map, map-append}
@@ -11,7 +12,7 @@ use lib.ListN.{length, get_or, take, drop, length-drop, length-map}
 use lib.Seq.{drop-cons, take-suc, drop_at, drop-append-le, length-take-le, take_all}
 use Rattle.iff.specs.Bytes.{hash}
 use Rattle.iff.specs.Lists.{kept}
-use Rattle.iff.specs.Refusals.{or_else, after}
+use Rattle.iff.specs.Refusals.{Verdict, or_else, after, at_place, fault_at}
 use Rattle.iff.specs.Lines.{Line, lines, is_hash, no_line}
 use Rattle.iff.specs.Tables.{Row, tag, row_width, fill, put_row, keys_of}
 use Rattle.iff.specs.declared.GroupFile.{GroupFile}
@@ -19,15 +20,9 @@ use Rattle.iff.specs.declared.File.TheVariants.{Groups}
 use Rattle.iff.specs.declared.Form.{Form}
 use Rattle.iff.specs.declared.Reason.{Reason}
 use Rattle.iff.specs.declared.Reason.TheVariants.{Order}
-use Rattle.iff.specs.declared.Place.{Place}
-use Rattle.iff.specs.declared.Place.TheVariants.{At}
-use Rattle.iff.specs.declared.Verdict.TheVariants.{Fine, Fault}
 use Rattle.iff_rules.specs.Order.{group_moves, group_stand, may_end}
 use Rattle.iff_rules.specs.Rows.{row_of, Context}
 use Rattle.iff_rules.specs.Load.{groups_verdict, fault_unless}
-use Rattle.text.specs.Spans.{span_line, LineAt}
-use Rattle.text.specs.declared.LineSpan.{LineSpan}
-use Rattle.text.proofs.LineLaws.{lines_end}
 use Rattle.tables.proofs.Each.{Each, each_append}
 use Rattle.tables.proofs.Rows.{Used, row_inside}
 use Rattle.tables.proofs.Filled.{fill_next}
@@ -39,8 +34,6 @@ use Rattle.fresh_keys.proofs.Runs.{run_rises, run_key}
 use Rattle.keys.proofs.Fills.{keys_in_fill, keys_same, keys_next}
 use Rattle.keys.proofs.Blocks.{between_in_fill}
 use Rattle.reading.specs.Reading.{RowsDone}
-use Rattle.reading.specs.declared.RowsRead.{RowsRead}
-use Rattle.reading.specs.declared.RowsRead.TheVariants.{AllRead, Stopped}
 use Rattle.group_marks.specs.Numbers.{Remembered, with_row}
 use Rattle.group_marks.proofs.NumberLaws.{none_remembered, opens, key_more, rest_more}
 use Rattle.group_lines.specs.Tests.{joins}
@@ -53,13 +46,15 @@ use Rattle.group_files.specs.Flat.{flat}
 use Rattle.group_files.specs.Begun.{first_in, GroupsBegun}
 use Rattle.group_files.proofs.HashLaws.{row_hash, stand_none, stand_next}
 use Rattle.group_files.proofs.FlatLaws.{groups_flat}
+use Rattle.iff.specs.declared.Fault.{Fault}
+use Rattle.iff.specs.declared.Place.{Place}
 
 many : (a w : ℕ) → 0 < w → a ≤ a * w
 many zero w h = omega arith
 many (suc a) w h = rw suc-mul (omega (arith, many a w h))
 
 -- a fault is no pass
-fault_not : (r : Reason) (p : Place) → Fault r p ≡ Fine → ⊥
+fault_not : (r : Reason) (p : Option Place) → ◌≡◌ {A = Verdict} (fault_at r p) (Ok tt) → ⊥
 fault_not r p e = let z : ◌≡◌ {A = ℕ} 0 1 = cc in omega arith
 
 -- a context with another form
@@ -78,12 +73,11 @@ module _ (f : GroupFile) (form : Form) (from : ℕ) (text : List ℕ) where
   abbrev open_to : ℕ → Open → List Row
   open_to j g = drop (j - g.size) (rows_to j)
 
--- what is left is the whole: j lines have been read, `at` is where the next begins
+-- what is left is the whole: j lines have been read, and these are left
 pub record Walk (f : GroupFile) (form : Form) (from : ℕ) (text t₀ : List ℕ) (Agree : Context → Type 0)
-    (at j : ℕ) (g : Open) (t marks : List ℕ) : Type 0 where
-  pub inside : at ≤ length text
+    (ls : List Line) (j : ℕ) (g : Open) (t marks : List ℕ) : Type 0 where
   pub few : j ≤ length (lines (drop from text))
-  pub here : lines (drop at text) ≡ drop j (lines (drop from text))
+  pub here : ls ≡ drop j (lines (drop from text))
   pub part : g.size ≤ j
   pub table : t ≡ fill (row_width (Groups f)) (length t₀) (first_in f t₀ ∷ rows_to f form from text j)
   pub used : Each (Used (row_width (Groups f))) (first_in f t₀ ∷ rows_to f form from text j)
@@ -113,19 +107,19 @@ module _ (f : GroupFile) (form : Form) (from : ℕ) (text t₀ : List ℕ) (Agre
   abbrev up_to : ℕ → List Row
   up_to j = rows_to f form from text j
 
-  abbrev Walks : ℕ → ℕ → Open → List ℕ → List ℕ → Type 0
-  Walks at j g t marks = Walk f form from text t₀ Agree at j g t marks
+  abbrev Walks : List Line → ℕ → Open → List ℕ → List ℕ → Type 0
+  Walks ls j g t marks = Walk f form from text t₀ Agree ls j g t marks
 
-  abbrev Done : List ℕ → RowsRead → Type 0
+  abbrev Done : List ℕ → Result Bool Fault → Type 0
   Done t r = RowsDone (Groups f) form Agree (λ c. groups_verdict c f all) first (map row_in all) t₀ t r
 
   -- IT BEGINS with no lines read and no group open
-  pub walk_start : (marks : List ℕ) (run : KeyRun) (g : Open) → run ≡ no_keys → g ≡ opening run → Walks from 0 g t₀ marks
+  pub walk_start : (ls : List Line) → ls ≡ all → (marks : List ℕ) (run : KeyRun) (g : Open) → run ≡ no_keys → g ≡ opening run
+      → Walks ls 0 g t₀ marks
   unfolding kept after
-  walk_start marks run g e o =
-      rw o
+  walk_start ls q marks run g e o =
+      rw (q, o)
       (record {
-        inside = G.inside;
         few = omega arith;
         here = refl;
         part = omega arith;
@@ -138,7 +132,7 @@ module _ (f : GroupFile) (form : Form) (from : ℕ) (text t₀ : List ℕ) (Agre
         kept = refl;
       })
 
-  module _ (at j : ℕ) (g : Open) (t marks : List ℕ) (W : Walks at j g t marks) where
+  module _ (ls : List Line) (j : ℕ) (g : Open) (t marks : List ℕ) (W : Walks ls j g t marks) where
     abbrev opened : List Row
     opened = drop (j - g.size) (up_to j)
 
@@ -150,10 +144,6 @@ module _ (f : GroupFile) (form : Form) (from : ℕ) (text t₀ : List ℕ) (Agre
     fitting =
         let h : suc j ≤ suc (length all) = omega (arith, W.few) in
         rw rows_length (omega (arith, mul-le-mul_right w h, G.begun.room))
-
-    -- so the lines can be counted
-    pub walk_count : j < length t₀
-    walk_count = omega (arith, fitting, rows_length, many (suc (length (up_to j))) w (widths (Groups f)).some)
 
     -- what stands in the table
     keys_here : keys_in (Groups f) t ≡ keys_of (Groups f) (up_to j)
@@ -172,16 +162,13 @@ module _ (f : GroupFile) (form : Form) (from : ℕ) (text t₀ : List ℕ) (Agre
         ∙ rw (a, b) (take_all g.size (drop (j - g.size) (up_to j)) n))
 
     -- A LINE FURTHER
-    module _ (s : LineSpan) (L : LineAt text at s) where
-      abbrev line : Line
-      line = span_line text at s
-
-      head : drop j all ≡ line ∷ lines (drop s.next text)
-      head = sym W.here ∙ L.head
+    module _ (rest : List Line) (line : Line) (L : ls ≡ line ∷ rest) where
+      head : drop j all ≡ line ∷ rest
+      head = sym W.here ∙ L
 
       inside : j < length all
       inside =
-          let h : length (drop j all) ≡ suc (length (lines (drop s.next text))) = ap length head in
+          let h : length (drop j all) ≡ suc (length rest) = ap length head in
           omega (arith, length-drop j all)
 
       -- its row has room behind the others
@@ -202,10 +189,10 @@ module _ (f : GroupFile) (form : Form) (from : ℕ) (text t₀ : List ℕ) (Agre
             marked = rw (keys_here, open_here) W.marked;
           }
 
-      parts : get_or all j no_line ∷ drop (suc j) all ≡ line ∷ lines (drop s.next text)
+      parts : get_or all j no_line ∷ drop (suc j) all ≡ line ∷ rest
       parts = sym (drop-cons all j no_line inside) ∙ head
 
-      tail : lines (drop s.next text) ≡ drop (j + 1) all
+      tail : rest ≡ drop (j + 1) all
       tail = let e = parts in rw add-one (cc)
 
       grown : up_to (j + 1) ≡ up_to j ++ (row_in line ∷ [])
@@ -243,7 +230,7 @@ module _ (f : GroupFile) (form : Form) (from : ℕ) (text t₀ : List ℕ) (Agre
       module _ (t' with : List ℕ) (r : LinePut)
           (D : LineDone f form (j + 1) (group_for g line) Agree (line_due f (j + 1) g line t) line t t' marks with r) where
         -- it is at fault, or the line before it
-        walk_stops : (a : Reason) (p : Place) → put_verdict f (j + 1) r ≡ Fault a p → Done t' (Stopped a p)
+        walk_stops : (a : Reason) (p : Option Place) → put_verdict f (j + 1) r ≡ fault_at a p → Done t' (fault_at a p)
         walk_stops a p q =
             record {
               verdict = λ c d x. sym (turn c d x ∙ rw (sym (D.verdict c d x) ∙ q));
@@ -253,12 +240,12 @@ module _ (f : GroupFile) (form : Form) (from : ℕ) (text t₀ : List ℕ) (Agre
             }
 
         -- it opens a group too early
-        pub walk_early : r ≡ Early → (n : ℕ) → n ≡ j + 1 → Done t' (Stopped Order (At (Groups f) 0 n))
-        walk_early q n e = walk_stops Order (At (Groups f) 0 n) (ap (put_verdict f (j + 1)) q ∙ rw e)
+        pub walk_early : r ≡ Early → (n : ℕ) → n ≡ j + 1 → Done t' (fault_at Order (at_place (Groups f) 0 n))
+        walk_early q n e = walk_stops Order (at_place (Groups f) 0 n) (ap (put_verdict f (j + 1)) q ∙ rw e)
 
         -- it is refused
-        pub walk_refused : (a : Reason) → r ≡ Refused a → (n : ℕ) → n ≡ j + 1 + 1 → Done t' (Stopped a (At (Groups f) 0 n))
-        walk_refused a q n e = walk_stops a (At (Groups f) 0 n) (ap (put_verdict f (j + 1)) q ∙ rw (e, add-one (j + 1)))
+        pub walk_refused : (a : Reason) → r ≡ Refused a → (n : ℕ) → n ≡ j + 1 + 1 → Done t' (fault_at a (at_place (Groups f) 0 n))
+        walk_refused a q n e = walk_stops a (at_place (Groups f) 0 n) (ap (put_verdict f (j + 1)) q ∙ rw (e, add-one (j + 1)))
 
         -- or stands in the table
         module _ (g' : Open) (q : r ≡ Put g') where
@@ -321,11 +308,10 @@ module _ (f : GroupFile) (form : Form) (from : ℕ) (text t₀ : List ℕ) (Agre
                     (rest_more f (open_from (j + 1) g.size) (row_in line) marks k (keys_of (Groups f) (up_to j)) opened W.marked);
               }
 
-          pub walk_goes : Walks s.next (j + 1) g' t' with
+          pub walk_goes : Walks rest (j + 1) g' t' with
           walk_goes =
               let n = next (is_hash line) refl in
               record {
-                inside = L.high;
                 few = omega (arith, inside);
                 here = tail;
                 part = n.part;
@@ -342,33 +328,33 @@ module _ (f : GroupFile) (form : Form) (from : ℕ) (text t₀ : List ℕ) (Agre
               }
 
     -- NO LINES ARE LEFT
-    module _ (h : length text ≤ at) where
+    module _ (h : ls ≡ []) where
       none : drop j all ≡ []
-      none = sym W.here ∙ lines_end text at h
+      none = sym W.here ∙ h
 
       every : up_to j ≡ map row_in all
       every =
           let n : length (drop j all) ≡ 0 = ap length none in
           ap (map row_in) (take_all j all (omega (arith, length-drop j all)))
 
-      last : (c : Context) → c.form ≡ form → Agree c → groups_verdict c f all ≡ fault_unless (may_end f g.stand) Order (At (Groups f) 0 (j + 1))
+      last : (c : Context) → c.form ≡ form → Agree c → groups_verdict c f all ≡ fault_unless (may_end f g.stand) Order (at_place (Groups f) 0 (j + 1))
       unfolding flat
       last c d a =
           let n : suc (length (up_to j)) ≡ j + 1 = omega (arith, rows_length) in
           W.left c d a ∙ rw (none, n, W.stands)
 
       -- the last group is too short
-      pub walk_short : may_end f g.stand ≡ false → (n : ℕ) → n ≡ j + 1 → Done t (Stopped Order (At (Groups f) 0 n))
+      pub walk_short : may_end f g.stand ≡ false → (n : ℕ) → n ≡ j + 1 → Done t (fault_at Order (at_place (Groups f) 0 n))
       walk_short q n e =
           record {
             verdict = λ c d a. sym (last c d a ∙ rw (q, e));
-            table = λ z. absurd (fault_not Order (At (Groups f) 0 n) z);
-            rises = λ z. absurd (fault_not Order (At (Groups f) 0 n) z);
+            table = λ z. absurd (fault_not Order (at_place (Groups f) 0 n) z);
+            rises = λ z. absurd (fault_not Order (at_place (Groups f) 0 n) z);
             kept = W.kept;
           }
 
       -- or all is well
-      pub walk_ends : may_end f g.stand ≡ true → Done t (AllRead g.run.rises)
+      pub walk_ends : may_end f g.stand ≡ true → Done t (Ok g.run.rises)
       walk_ends q =
           record {
             verdict = λ c d a. sym (last c d a ∙ rw q);

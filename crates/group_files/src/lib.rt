@@ -12,12 +12,11 @@ ghost use Rattle.reading.specs.Reading.{Ready, RowsDone, FileRead};
 ghost use Rattle.group_files.specs.Begun.{first_in, names_others, GroupsBegun};
 
 use group_lines::LinePut;
-use iff::{File, Form, GroupFile, Place, Reason, Verdict};
-use reading::{Begin, RowsRead};
+use iff::{File, Form, GroupFile, Reason, Verdict};
 use references::GroupCounts;
 
 // The lines from `from` on, the first of which is line 2 of the file. The table holds the first line's row, and theirs come behind it. Each row is
-// marked, where there are marks.
+// marked, where there are marks. Whether their keys rise.
 fn add_lines(
     file: GroupFile,
     form: Form,
@@ -32,7 +31,7 @@ fn add_lines(
     places: &[u32],
     xfootnotes: &[u64],
     marks: &mut [u8],
-) -> RowsRead
+) -> Result<bool, iff::Fault>
     requires { GroupsBegun file text.now from t.old }
     ensures { RowsDone (Groups file) form
         (λ c. GroupKeysAmong c counts companies.now modes.now stations.now services.now
@@ -40,60 +39,53 @@ fn add_lines(
         (λ c. groups_verdict c file (lines (drop from text.now))) (first_in file t.old)
         (map (row_of form (Groups file)) (lines (drop from text.now))) t.old t.new result }
 {
-    let mut at = from;
     let mut read: usize = 0;
     let mut group = open_groups::opening(fresh_keys::no_keys());
-    while at < text.len() {
-        let s = text::line_at(text, at);
-        let end = s.end;
-        let next = s.next;
-        let ended = s.ended;
+    for line in text_lines::lines_from(text, from) {
         let rows = read + 1;
         match group_lines::group_line(
-            file,
-            form,
-            &text[at..end],
-            ended,
-            rows,
-            group,
-            t,
-            counts,
-            companies,
-            modes,
-            stations,
-            services,
-            places,
-            xfootnotes,
-            marks,
+            file, form, line.body, line.ended, rows, group, t, counts, companies, modes, stations,
+            services, places, xfootnotes, marks,
         ) {
             LinePut::Early => {
-                return RowsRead::Stopped(
-                    Reason::Order,
-                    Place::At(File::Groups(file), 0, reading::line_number(read)),
-                );
+                return Err(iff::Fault {
+                    reason: Reason::Order,
+                    place: Some(iff::Place {
+                        file: File::Groups(file),
+                        ordinal: 0,
+                        line: reading::line_number(read),
+                    }),
+                });
             }
             LinePut::Refused(r) => {
-                return RowsRead::Stopped(
-                    r,
-                    Place::At(File::Groups(file), 0, reading::line_number(rows)),
-                );
+                return Err(iff::Fault {
+                    reason: r,
+                    place: Some(iff::Place {
+                        file: File::Groups(file),
+                        ordinal: 0,
+                        line: reading::line_number(rows),
+                    }),
+                });
             }
             LinePut::Put(g) => {
                 group = g;
                 read = rows;
-                at = next;
             }
         }
     }
     let stand = group.stand;
     if !group_order::may_end(file, stand) {
-        return RowsRead::Stopped(
-            Reason::Order,
-            Place::At(File::Groups(file), 0, reading::line_number(read)),
-        );
+        return Err(iff::Fault {
+            reason: Reason::Order,
+            place: Some(iff::Place {
+                file: File::Groups(file),
+                ordinal: 0,
+                line: reading::line_number(read),
+            }),
+        });
     }
     let run = group.run;
-    RowsRead::AllRead(run.rises)
+    Ok(run.rises)
 }
 
 // The same with marks, which are cleared before the first line.
@@ -110,7 +102,7 @@ fn add_marked(
     services: &[u64],
     places: &[u32],
     xfootnotes: &[u64],
-) -> RowsRead
+) -> Result<bool, iff::Fault>
     requires { GroupsBegun file text.now from t.old }
     ensures { RowsDone (Groups file) form
         (λ c. GroupKeysAmong c counts companies.now modes.now stations.now services.now
@@ -139,7 +131,7 @@ fn add_groups(
     services: &[u64],
     places: &[u32],
     xfootnotes: &[u64],
-) -> RowsRead
+) -> Result<bool, iff::Fault>
     requires { GroupsBegun file text.now from t.old }
     ensures { RowsDone (Groups file) form
         (λ c. GroupKeysAmong c counts companies.now modes.now stations.now services.now
@@ -199,7 +191,7 @@ fn add_placed(
     stations: &[u64],
     services: &[u64],
     xfootnotes: &[u64],
-) -> RowsRead
+) -> Result<bool, iff::Fault>
     requires { GroupsBegun file text.now from t.old }
     ensures { RowsDone (Groups file) form
         (λ c. GroupKeysAmong c counts companies.now modes.now stations.now services.now
@@ -226,7 +218,8 @@ fn add_placed(
     )
 }
 
-// The lines of any file of groups, with the rows in use of the other tables counted before the first, and not again; those of the services are known.
+// The lines of any file of groups, with the rows in use of the other tables counted before the first, and not again; those of the services are
+// known. Whether their keys rise.
 fn read_groups(
     file: GroupFile,
     form: Form,
@@ -239,7 +232,7 @@ fn read_groups(
     services: &[u64],
     xfootnotes: &[u64],
     service_rows: usize,
-) -> RowsRead
+) -> Result<bool, iff::Fault>
     requires { GroupsBegun file text.now from t.old }
     ensures { RowsDone (Groups file) form
         (λ c. GroupKeys c service_rows companies.now modes.now stations.now services.now
@@ -282,36 +275,35 @@ pub fn read_group_file(
         xfootnotes.now)
         header.now text.now v t.old t.new result }
 {
-    match v {
-        Verdict::Fault(r, p) => Verdict::Fault(r, p),
-        Verdict::Fine => {
-            if text.len() == 0 {
-                return Verdict::Fine;
-            }
-            match heads::begin_file(File::Groups(file), text, header, t) {
-                Begin::Broken(r) => Verdict::Fault(r, Place::At(File::Groups(file), 0, 1)),
-                Begin::Rest(from) => {
-                    match read_groups(
-                        file,
-                        form,
-                        text,
-                        from,
-                        t,
-                        companies,
-                        modes,
-                        stations,
-                        services,
-                        xfootnotes,
-                        service_rows,
-                    ) {
-                        RowsRead::Stopped(r, p) => Verdict::Fault(r, p),
-                        RowsRead::AllRead(rises) => {
-                            head_words::set_rises(t, rises);
-                            Verdict::Fine
-                        }
-                    }
-                }
-            }
+    v?;
+    if text.len() == 0 {
+        return Ok(());
+    }
+    match heads::begin_file(File::Groups(file), text, header, t) {
+        Err(r) => Err(iff::Fault {
+            reason: r,
+            place: Some(iff::Place {
+                file: File::Groups(file),
+                ordinal: 0,
+                line: 1,
+            }),
+        }),
+        Ok(from) => {
+            let rises = read_groups(
+                file,
+                form,
+                text,
+                from,
+                t,
+                companies,
+                modes,
+                stations,
+                services,
+                xfootnotes,
+                service_rows,
+            )?;
+            head_words::set_rises(t, rises);
+            Ok(())
         }
     }
 }

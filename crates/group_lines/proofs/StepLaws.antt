@@ -1,11 +1,12 @@
 -- A line that is put to its group: its row in the table, and where the groups stand after it. Assumes nothing.
+use Rattle.std.specs.Prelude.{Err, Ok}
 use Prim.Native.Nat.{ℕ, suc, ◌-◌}
 use mathlib.Core.Path.{◌≡◌, refl, ap, sym, ◌∙◌}
 use mathlib.Core.List.{List, []}
 use mathlib.Core.Bool.{true, false}
 use native.Mathlib.Omega.{arith}
 use lib.ListN.{length, drop}
-use Rattle.iff.specs.Refusals.{verdict_at, after}
+use Rattle.iff.specs.Refusals.{verdict_at, after, Test, at_place}
 use Rattle.iff.specs.Lines.{Line, is_hash}
 use Rattle.iff.specs.Tables.{Row, tag, row_width, put_row}
 use Rattle.iff.specs.Words.{named}
@@ -13,9 +14,6 @@ use Rattle.iff.specs.declared.GroupFile.{GroupFile}
 use Rattle.iff.specs.declared.File.TheVariants.{Groups}
 use Rattle.iff.specs.declared.Form.{Form}
 use Rattle.iff.specs.declared.Reason.{Reason}
-use Rattle.iff.specs.declared.Place.TheVariants.{At}
-use Rattle.iff.specs.declared.Test.{Test}
-use Rattle.iff.specs.declared.Test.TheVariants.{Passes, Fails}
 use Rattle.iff_rules.specs.Order.{group_stand, may_end}
 use Rattle.iff_rules.specs.Rows.{row_of, Context}
 use Rattle.keys.specs.Lookup.{keys_in}
@@ -40,22 +38,22 @@ refused_not r g e = let z : ◌≡◌ {A = ℕ} 0 1 = cc in omega arith
 module _ (f : GroupFile) (form : Form) (rows : ℕ) (g : Open) (Agree : Context → Type 0) (l : Line) (t marks : List ℕ) (b : Beside f rows g t marks) where
   -- the table after it
   module _ (was is : List ℕ) (p : Test) (m : RowTested f form rows g Agree l t was is p) where
-    pub put_not : (r : Reason) → p ≡ Fails r → LineDone f form rows g Agree (add_due f rows g l t) l t t marks marks (Refused r)
+    pub put_not : (r : Reason) → p ≡ Err r → LineDone f form rows g Agree (add_due f rows g l t) l t t marks marks (Refused r)
     put_not r q =
         record {
-          verdict = λ c d a. ap (verdict_at (At (Groups f) 0 (suc rows))) (sym q ∙ m.test c d a);
+          verdict = λ c d a. ap (verdict_at (at_place (Groups f) 0 (suc rows))) (sym q ∙ m.test c d a);
           put = λ a n. absurd (refused_not r a n);
           kept = refl;
         }
 
-    pub put_there : length was ≡ row_width (Groups f) → p ≡ Passes → (t' : List ℕ) → t' ≡ put_row (length is) t rows is → length t' ≡ length t
+    pub put_there : length was ≡ row_width (Groups f) → p ≡ Ok tt → (t' : List ℕ) → t' ≡ put_row (length is) t rows is → length t' ≡ length t
         → (with : List ℕ) → with ≡ with_row f (open_from rows g.size) is marks
         → (next : Open) → next ≡ open_after g (tag is) (named is) → LineDone f form rows g Agree (add_due f rows g l t) l t t' marks with (Put next)
     put_there w q t' e k with x next z =
         let s : is ≡ row_of form (Groups f) l = m.row q in
         let n : length is ≡ row_width (Groups f) = m.kept ∙ w in
         record {
-          verdict = λ c d a. ap (verdict_at (At (Groups f) 0 (suc rows))) (sym q ∙ m.test c d a);
+          verdict = λ c d a. ap (verdict_at (at_place (Groups f) 0 (suc rows))) (sym q ∙ m.test c d a);
           put = λ a p.
               (let i : a ≡ next = cc in
               record {

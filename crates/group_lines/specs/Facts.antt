@@ -1,6 +1,6 @@
 -- What the functions of this crate ask and tell, by name: a line put to its group.
-use Rattle.std.specs.Prelude.{ℕ, suc, ◌≡◌, List, false, eqb, length}
-use Rattle.iff.specs.Refusals.{verdict_at}
+use Rattle.std.specs.Prelude.{ℕ, suc, ◌≡◌, List, false, eqb, length, Ok}
+use Rattle.iff.specs.Refusals.{verdict_at, Verdict, at_place, fault_at}
 use Rattle.iff.specs.Lines.{Line}
 use Rattle.iff.specs.Tables.{tag, row_width, put_row}
 use Rattle.iff.specs.Words.{named}
@@ -8,9 +8,6 @@ use Rattle.iff.specs.declared.GroupFile.{GroupFile}
 use Rattle.iff.specs.declared.File.TheVariants.{Groups}
 use Rattle.iff.specs.declared.Form.{Form}
 use Rattle.iff.specs.declared.Reason.TheVariants.{Order}
-use Rattle.iff.specs.declared.Place.TheVariants.{At}
-use Rattle.iff.specs.declared.Verdict.{Verdict}
-use Rattle.iff.specs.declared.Verdict.TheVariants.{Fine, Fault}
 use Rattle.iff_rules.specs.Rows.{row_of, Context}
 use Rattle.iff_rules.specs.Load.{group_test}
 use Rattle.keys.specs.Lookup.{keys_in}
@@ -23,13 +20,13 @@ use Rattle.group_lines.specs.declared.LinePut.TheVariants.{Put, Early, Refused}
 
 -- after some rows: the fault is the line's, or that of the line before it, whose group is too short
 abbrev pub put_verdict : GroupFile → ℕ → LinePut → Verdict
-put_verdict f rows (Put g) = Fine
-put_verdict f rows Early = Fault Order (At (Groups f) 0 rows)
-put_verdict f rows (Refused r) = Fault r (At (Groups f) 0 (suc rows))
+put_verdict f rows (Put g) = Ok tt
+put_verdict f rows Early = fault_at Order (at_place (Groups f) 0 rows)
+put_verdict f rows (Refused r) = fault_at r (at_place (Groups f) 0 (suc rows))
 
 -- the tests of a line that is put to a group, and of one that is read after it
 abbrev pub add_due : GroupFile → ℕ → Open → Line → List ℕ → Context → Verdict
-add_due f rows g l t c = verdict_at (At (Groups f) 0 (suc rows)) (group_test c f (keys_in (Groups f) t) (open_rows f t rows g.size) l)
+add_due f rows g l t c = verdict_at (at_place (Groups f) 0 (suc rows)) (group_test c f (keys_in (Groups f) t) (open_rows f t rows g.size) l)
 
 abbrev pub line_due : GroupFile → ℕ → Open → Line → List ℕ → Context → Verdict
 line_due f rows g l t c = line_verdict c f (keys_in (Groups f) t) (open_rows f t rows g.size) rows l

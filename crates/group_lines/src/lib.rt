@@ -9,7 +9,7 @@ ghost use Rattle.references.specs.Agree.{GroupKeysAmong};
 ghost use Rattle.open_groups.specs.Open.{Beside, group_for};
 ghost use Rattle.group_lines.specs.Facts.{add_due, line_due, LineDone};
 
-use iff::{File, Form, GroupFile, Reason, Test};
+use iff::{File, Form, GroupFile, Reason};
 use open_groups::Open;
 use references::GroupCounts;
 
@@ -51,8 +51,8 @@ fn add_row(
         file, form, line, ended, rows, group, t, counts, companies, modes, stations, services,
         places, xfootnotes, row, marks,
     ) {
-        Test::Fails(r) => LinePut::Refused(r),
-        Test::Passes => {
+        Err(r) => LinePut::Refused(r),
+        Ok(()) => {
             table_writes::put_row(t, row.len(), rows, row);
             let from = rows - group.size + 1;
             group_marks::remember(file, from, row, marks);

@@ -1,4 +1,5 @@
 -- One line of a group: what its tests come to, by what the code found. Assumes nothing.
+use Rattle.std.specs.Prelude.{Err, Ok}
 use Prim.Native.Nat.{ℕ, zero, suc, ◌+◌, ◌-◌}
 use mathlib.Core.Path.{◌≡◌, refl, ap, sym, ◌∙◌}
 use mathlib.Core.List.{List, [], ◌∷◌}
@@ -10,7 +11,7 @@ use lib.Dec.{eqb}
 use lib.ListN.{length, drop}
 use Rattle.iff.specs.Bytes.{hash}
 use Rattle.iff.specs.Lists.{any, has}
-use Rattle.iff.specs.Refusals.{or_test, first_test, unless}
+use Rattle.iff.specs.Refusals.{or_test, first_test, unless, Test}
 use Rattle.iff.specs.Lines.{Line, letter}
 use Rattle.iff.specs.Columns.{group_record, fields_of}
 use Rattle.iff.specs.Tables.{Row, tag, row_width}
@@ -22,8 +23,6 @@ use Rattle.iff.specs.declared.GroupStand.{GroupStand}
 use Rattle.iff.specs.declared.Record.{Record}
 use Rattle.iff.specs.declared.Reason.{Reason}
 use Rattle.iff.specs.declared.Reason.TheVariants.{Layout, Value, Duplicate, Reference, Order}
-use Rattle.iff.specs.declared.Test.{Test}
-use Rattle.iff.specs.declared.Test.TheVariants.{Passes, Fails}
 use Rattle.iff_rules.specs.Order.{known_in_group, may_follow, group_tag}
 use Rattle.iff_rules.specs.Rows.{Context}
 use Rattle.iff_rules.specs.Meaning.{group_meaning}
@@ -39,18 +38,18 @@ use Rattle.open_groups.specs.Open.{open_rows}
 
 -- THE ROW OF A LINE
 -- a test that passes, after another
-passes_first : (s t : Test) → Passes ≡ or_test s t → Passes ≡ s
-passes_first Passes t e = refl
-passes_first (Fails r) t e = e
+passes_first : (s t : Test) → Ok tt ≡ or_test s t → Ok tt ≡ s
+passes_first (Ok _) t e = refl
+passes_first (Err r) t e = e
 
-pub fails_not : (r : Reason) → Fails r ≡ Passes → ⊥
+pub fails_not : (r : Reason) → ◌≡◌ {A = Test} (Err r) (Ok tt) → ⊥
 fails_not r e = let z : ◌≡◌ {A = ℕ} 0 1 = cc in omega arith
 
-unless_true : (b : Bool) (r : Reason) → Passes ≡ unless b r → b ≡ true
+unless_true : (b : Bool) (r : Reason) → Ok tt ≡ unless b r → b ≡ true
 unless_true true r e = refl
 unless_true false r e = absurd (fails_not r (sym e))
 
-fails_first : (s t : Test) (r : Reason) → s ≡ Fails r → Fails r ≡ or_test s t
+fails_first : (s t : Test) (r : Reason) → s ≡ Err r → Err r ≡ or_test s t
 fails_first s t r e = rw e
 
 module _ (f : GroupFile) (form : Form) (s : GroupStand) (l : Line) (was is : List ℕ) (wide : length was ≡ row_width (Groups f)) where
@@ -58,7 +57,7 @@ module _ (f : GroupFile) (form : Form) (s : GroupStand) (l : Line) (was is : Lis
   byte = place_test f s (letter l)
 
   -- its first byte is refused
-  pub place_fails : (p : Test) (r : Reason) → p ≡ byte → p ≡ Fails r → RowMade f form s l was was (Fails r)
+  pub place_fails : (p : Test) (r : Reason) → p ≡ byte → p ≡ Err r → RowMade f form s l was was (Err r)
   place_fails p r q h =
       record {
         test = fails_first byte (layout_test l (fields_of form (Groups f) (letter l))) r (sym q ∙ h);
@@ -67,13 +66,13 @@ module _ (f : GroupFile) (form : Form) (s : GroupStand) (l : Line) (was is : Lis
         kept = refl;
       }
 
-  byte_known : Passes ≡ byte → known_in_group f (letter l) ≡ true
+  byte_known : Ok tt ≡ byte → known_in_group f (letter l) ≡ true
   byte_known e =
       unless_true (known_in_group f (letter l)) Layout
       (passes_first (unless (known_in_group f (letter l)) Layout) (unless (may_follow f s (group_tag f (letter l))) Order) e)
 
   -- or not, and its layout is tested
-  pub place_passes : (p t : Test) (kind : Record) (tagged : ℕ) → p ≡ byte → p ≡ Passes → kind ≡ group_record f (letter l)
+  pub place_passes : (p t : Test) (kind : Record) (tagged : ℕ) → p ≡ byte → p ≡ Ok tt → kind ≡ group_record f (letter l)
       → tagged ≡ group_tag f (letter l) → LineRead form kind tagged l was is t → RowMade f form s l was is t
   place_passes p t kind tagged q h k g a =
       record {
@@ -122,20 +121,20 @@ module _ (c : Context) (f : GroupFile) (keys t : List ℕ) (rows size : ℕ) (r 
   unfolding group_row_test
   tests_are = rw p
 
-  pub means_not : m ≡ false → Fails Value ≡ due
+  pub means_not : m ≡ false → Err Value ≡ due
   unfolding first_test
   means_not a = rw a at tests_are
 
   module _ (a : m ≡ true) (u : Bool) (q : u ≡ unique) where
-    pub unique_not : u ≡ false → Fails Duplicate ≡ due
+    pub unique_not : u ≡ false → Err Duplicate ≡ due
     unfolding first_test
     unique_not b = rw (a, sym q ∙ b) at tests_are
 
     module _ (b : u ≡ true) (g : Bool) (s : g ≡ met_in_group c f r) where
-      pub met_not : g ≡ false → Fails Reference ≡ due
+      pub met_not : g ≡ false → Err Reference ≡ due
       unfolding first_test
       met_not d = rw (a, sym q ∙ b, sym s ∙ d) at tests_are
 
-      pub row_passes : g ≡ true → Passes ≡ due
+      pub row_passes : g ≡ true → Ok tt ≡ due
       unfolding first_test
       row_passes d = rw (a, sym q ∙ b, sym s ∙ d) at tests_are

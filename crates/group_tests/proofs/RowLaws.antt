@@ -1,15 +1,14 @@
 -- The tests of a line that is put to a group, and its row. Assumes nothing.
+use Rattle.std.specs.Prelude.{Err, Ok}
 use Prim.Native.Nat.{ℕ}
 use mathlib.Core.Path.{◌≡◌, sym, ◌∙◌}
 use mathlib.Core.List.{List}
-use Rattle.iff.specs.Refusals.{or_test}
+use Rattle.iff.specs.Refusals.{or_test, Test}
 use Rattle.iff.specs.Lines.{Line}
 use Rattle.iff.specs.declared.GroupFile.{GroupFile}
 use Rattle.iff.specs.declared.File.TheVariants.{Groups}
 use Rattle.iff.specs.declared.Form.{Form}
 use Rattle.iff.specs.declared.Reason.{Reason}
-use Rattle.iff.specs.declared.Test.{Test}
-use Rattle.iff.specs.declared.Test.TheVariants.{Passes, Fails}
 use Rattle.iff_rules.specs.Rows.{row_of, Context}
 use Rattle.iff_rules.specs.Load.{group_test}
 use Rattle.keys.specs.Lookup.{keys_in}
@@ -31,7 +30,7 @@ module _ (f : GroupFile) (form : Form) (rows : ℕ) (g : Open) (Agree : Context 
     tests_are c d = rw (group_split c f seen (open_rows f t rows g.size) l, d, ← b.stands, ← m.test)
 
     -- the line alone is refused
-    pub tested_no : (r : Reason) → p ≡ Fails r → RowTested f form rows g Agree l t was is (Fails r)
+    pub tested_no : (r : Reason) → p ≡ Err r → RowTested f form rows g Agree l t was is (Err r)
     tested_no r q =
         record {
           test = λ c d a. sym (tests_are c d ∙ rw q);
@@ -41,7 +40,7 @@ module _ (f : GroupFile) (form : Form) (rows : ℕ) (g : Open) (Agree : Context 
         }
 
     -- or not, and its row is tested
-    pub tested : p ≡ Passes → (r : Test)
+    pub tested : p ≡ Ok tt → (r : Test)
         → ((c : Context) → Agree c → r ≡ group_row_test c f seen (open_rows f t rows g.size) is)
         → RowTested f form rows g Agree l t was is r
     tested q r e =

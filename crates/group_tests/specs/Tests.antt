@@ -1,12 +1,11 @@
 -- The tests of a line of a group, in the parts that the code makes of them: its first byte and its row.
 use Rattle.std.specs.Prelude.{ℕ, List, [], ◌∷◌, ◌&&◌, drop}
-use Rattle.iff.specs.Refusals.{or_test, first_test, unless}
+use Rattle.iff.specs.Refusals.{or_test, first_test, unless, Test}
 use Rattle.iff.specs.Tables.{Row}
 use Rattle.iff.specs.declared.GroupFile.{GroupFile}
 use Rattle.iff.specs.declared.File.TheVariants.{Groups}
 use Rattle.iff.specs.declared.GroupStand.{GroupStand}
 use Rattle.iff.specs.declared.Reason.TheVariants.{Layout, Value, Order, Duplicate, Reference}
-use Rattle.iff.specs.declared.Test.{Test}
 use Rattle.iff_rules.specs.Order.{known_in_group, group_tag, may_follow}
 use Rattle.iff_rules.specs.Rows.{Context}
 use Rattle.iff_rules.specs.Meaning.{group_meaning}

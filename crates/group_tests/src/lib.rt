@@ -22,13 +22,13 @@ fn place_test(file: GroupFile, stand: GroupStand, letter: u8) -> Test
     ensures { result ≡ place_test file stand letter }
 {
     if !first_bytes::is_known_in_group(file, letter) {
-        return Test::Fails(Reason::Layout);
+        return Err(Reason::Layout);
     }
     let tag = first_bytes::group_tag(file, letter);
     if !group_order::may_follow(file, stand, tag) {
-        return Test::Fails(Reason::Order);
+        return Err(Reason::Order);
     }
-    Test::Passes
+    Ok(())
 }
 
 // The tests of a line alone, and its row where they pass.
@@ -44,14 +44,10 @@ fn make_row(
     ensures { RowMade file form stand (line_of line.now ended) row.old row.new result }
 {
     let letter = text::first_byte(line);
-    match place_test(file, stand, letter) {
-        Test::Fails(r) => Test::Fails(r),
-        Test::Passes => {
-            let kind = records::group_record(file, letter);
-            let tag = first_bytes::group_tag(file, letter);
-            record_lines::read_line(kind, tag, form, line, ended, row)
-        }
-    }
+    place_test(file, stand, letter)?;
+    let kind = records::group_record(file, letter);
+    let tag = first_bytes::group_tag(file, letter);
+    record_lines::read_line(kind, tag, form, line, ended, row)
 }
 
 // A `#` names a key that no group before it has; another row shares with none of its group what no two may. Most are told to be new by their marks.
@@ -101,17 +97,17 @@ fn row_test(
         row.now }
 {
     if !meanings::group_means(file, row) {
-        return Test::Fails(Reason::Value);
+        return Err(Reason::Value);
     }
     if !is_unique(file, rows, group, row, t, marks) {
-        return Test::Fails(Reason::Duplicate);
+        return Err(Reason::Duplicate);
     }
     if !group_references::met_in_group(
         file, row, counts, companies, modes, stations, services, places, xfootnotes,
     ) {
-        return Test::Fails(Reason::Reference);
+        return Err(Reason::Reference);
     }
-    Test::Passes
+    Ok(())
 }
 
 // All tests of a line that is put to a group, and its row where they pass.
@@ -140,11 +136,9 @@ pub fn test_row(
         (line_of line.now ended) t.now row.old row.new result }
 {
     let stand = group.stand;
-    match make_row(file, form, stand, line, ended, row) {
-        Test::Fails(r) => Test::Fails(r),
-        Test::Passes => row_test(
-            file, rows, group, row, t, counts, companies, modes, stations, services, places,
-            xfootnotes, marks,
-        ),
-    }
+    make_row(file, form, stand, line, ended, row)?;
+    row_test(
+        file, rows, group, row, t, counts, companies, modes, stations, services, places,
+        xfootnotes, marks,
+    )
 }

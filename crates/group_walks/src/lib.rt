@@ -39,6 +39,7 @@ pub fn walk_groups(
         return false;
     }
     let mut i = first;
+    // A loop by hand: how many rows a group has is known only once the next `#` is found, so no range says where the next begins.
     while i < used {
         let next = walks::next_head(t, w, i + 1, used);
         if !sound_one_group::is_group_sound(

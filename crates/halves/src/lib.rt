@@ -61,7 +61,7 @@ fn head_row(file: iff::File, t: &[u64], i: usize) -> usize
 
 // A search by halves among the first rows, row 0 apart, which is the first line's. A row is tested before it is called found, so what is found
 // leans on no order of the keys. Where they rise every key is found, and where they do not one may be missed: that is a matter of time alone.
-pub fn found_by_halves(file: iff::File, t: &[u64], used: usize, key: u64) -> iff::RowOf
+pub fn found_by_halves(file: iff::File, t: &[u64], used: usize, key: u64) -> Option<usize>
     ensures { HitRow file used t.now key result }
 {
     let w = tables::row_width(file);
@@ -70,11 +70,12 @@ pub fn found_by_halves(file: iff::File, t: &[u64], used: usize, key: u64) -> iff
     let rows = keys::rows_among(t, w, used);
     let mut low = 1;
     let mut high = rows;
+    // A loop by hand: it looks at the head of the middle row and may end there, which no search of the library over a sorted slice does.
     while low < high {
         let middle = low + (high - low) / 2;
         let at = head_row(file, t, middle);
         if tables::keyed_at(t, w, at, tag, col, key) {
-            return iff::RowOf::Row(at);
+            return Some(at);
         }
         if tables::word_at(t, w, at, col) < key {
             low = middle + 1;
@@ -82,5 +83,5 @@ pub fn found_by_halves(file: iff::File, t: &[u64], used: usize, key: u64) -> iff
             high = middle;
         }
     }
-    iff::RowOf::NoRow
+    None
 }

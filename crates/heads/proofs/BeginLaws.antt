@@ -1,4 +1,5 @@
 -- A file's first line in its text, and its row in an empty table. Assumes nothing.
+use Rattle.std.specs.Prelude.{Err, Ok}
 use Prim.Native.Nat.{ℕ, suc, ◌-◌, ◌*◌, ◌≤◌}
 use mathlib.Core.Path.{◌≡◌, refl, ap, sym, ◌∙◌}
 use mathlib.Core.List.{List, [], ◌∷◌, ◌++◌, append-nil}
@@ -8,7 +9,7 @@ use native.Mathlib.Omega.{arith}
 use lib.Dec.{eqb}
 use lib.ListN.{length, get_or, take, drop, replicate, length-append, length-replicate}
 use Rattle.iff.specs.Lists.{same}
-use Rattle.iff.specs.Refusals.{first_test}
+use Rattle.iff.specs.Refusals.{first_test, Test}
 use Rattle.iff.specs.Lines.{Line, lines, no_line}
 use Rattle.iff.specs.Columns.{first_fields, record_fields, form424, laid}
 use Rattle.iff.specs.Values.{words, field_words}
@@ -17,8 +18,6 @@ use Rattle.iff.specs.declared.File.{File}
 use Rattle.iff.specs.declared.File.TheVariants.{Delivery, Rows, Groups, Timetbls}
 use Rattle.iff.specs.declared.GroupFile.TheVariants.{Timezone, Footnote, Changes, Xfootnote, Xchanges}
 use Rattle.iff.specs.declared.Reason.{Reason}
-use Rattle.iff.specs.declared.Test.{Test}
-use Rattle.iff.specs.declared.Test.TheVariants.{Passes, Fails}
 use Rattle.iff_rules.specs.Rows.{first_row_of}
 use Rattle.iff_rules.specs.Load.{first_line_test}
 use Rattle.text.specs.declared.LineSpan.{LineSpan}
@@ -27,11 +26,10 @@ use Rattle.tables.proofs.Rows.{row_in_table}
 use Rattle.tables.proofs.Filled.{drop_replicate}
 use Rattle.records.specs.Layouts.{line_of}
 use Rattle.reading.specs.Reading.{FirstLegible, head_line, Ready, Split, FirstRead}
-use Rattle.reading.specs.declared.Begin.TheVariants.{Rest, Broken}
 use Rattle.first_lines.proofs.HeadLaws.{head_tests, first_is, laid_fits}
 
 -- a first line that passes is legible
-passing : (h a q v m : Bool) → Passes ≡ head_tests h a q v m → (a ≡ true) × (v ≡ true)
+passing : (h a q v m : Bool) → Ok tt ≡ head_tests h a q v m → (a ≡ true) × (v ≡ true)
 unfolding head_tests first_test
 passing true true true true true e = (refl, refl)
 passing false a q v m e = absurd (let z : ◌≡◌ {A = ℕ} 0 1 = cc in omega arith)
@@ -40,7 +38,7 @@ passing true true false v m e = absurd (let z : ◌≡◌ {A = ℕ} 0 1 = cc in 
 passing true true true false m e = absurd (let z : ◌≡◌ {A = ℕ} 0 1 = cc in omega arith)
 passing true true true true false e = absurd (let z : ◌≡◌ {A = ℕ} 0 1 = cc in omega arith)
 
-pub passing_legible : (s : Bool) (l : Line) → Passes ≡ first_line_test s l → FirstLegible l.body
+pub passing_legible : (s : Bool) (l : Line) → Ok tt ≡ first_line_test s l → FirstLegible l.body
 unfolding record_fields
 passing_legible s l e =
     let p = passing _ _ _ _ _ (e ∙ first_is s l) in
@@ -126,7 +124,7 @@ some_body text s a = sym (ap (λ (l : Line). l.body) (head_is text s a))
 -- what is said of a first line
 module _ (f : File) (header text was : List ℕ) (s : LineSpan) (a : LineAt text 0 s) (x : Test)
     (e : x ≡ first_line_test (same (span_line text 0 s).body header) (span_line text 0 s)) where
-  pub refused : (k : Reason) → x ≡ Fails k → FirstRead f header text was was (head_line text) (Broken k)
+  pub refused : (k : Reason) → x ≡ Err k → FirstRead f header text was was (head_line text) (Err k)
   refused k p =
       record {
         test = rw (head_is text s a) (sym p ∙ e);
@@ -134,10 +132,10 @@ module _ (f : File) (header text was : List ℕ) (s : LineSpan) (a : LineAt text
         kept = refl;
       }
 
-  pub legible : x ≡ Passes → FirstLegible (span_line text 0 s).body
+  pub legible : x ≡ Ok tt → FirstLegible (span_line text 0 s).body
   legible p = passing_legible _ (span_line text 0 s) (sym p ∙ e)
 
-  module _ (r : Ready f text was) (row : List ℕ) (p : x ≡ Passes) (q : row ≡ first_row_of f true (line_of (span_line text 0 s).body true)) (w : ℕ)
+  module _ (r : Ready f text was) (row : List ℕ) (p : x ≡ Ok tt) (q : row ≡ first_row_of f true (line_of (span_line text 0 s).body true)) (w : ℕ)
       (h : w ≡ row_width f) where
     as_row : row ≡ first_row_of f true (head_line text)
     unfolding first_row_of
@@ -146,7 +144,7 @@ module _ (f : File) (header text was : List ℕ) (s : LineSpan) (a : LineAt text
     in_front : row ++ drop (w - 0) was ≡ row ++ drop (row_width f) was
     in_front = rw (sub-zero, h)
 
-    pub accepted : FirstRead f header text was (row ++ drop (w - 0) was) (head_line text) (Rest s.next)
+    pub accepted : FirstRead f header text was (row ++ drop (w - 0) was) (head_line text) (Ok s.next)
     accepted =
         record {
           test = rw (head_is text s a) (sym p ∙ e);

@@ -1,7 +1,5 @@
 -- "Days are DDMMYYYY, Gregorian, years 1600 to 9999, first not after last; a table of the days before each month serves."
-use Rattle.std.specs.Prelude.{ℕ, zero, suc, ◌+◌, ◌-◌, ◌/◌, ◌%◌, Bool, true, false, cond, ◌&&◌, List, [], ◌∷◌, get_or, eqb, ltb, leb}
-use Rattle.iff.specs.declared.DayOf.{DayOf}
-use Rattle.iff.specs.declared.DayOf.TheVariants.{Day, NotADay}
+use Rattle.std.specs.Prelude.{ℕ, zero, suc, ◌+◌, ◌-◌, ◌/◌, ◌%◌, Bool, true, false, cond, ◌&&◌, List, [], ◌∷◌, get_or, eqb, ltb, leb, None, Option, Some}
 
 -- every fourth year but the hundreds that are not four hundreds
 unfoldable pub leap_year : ℕ → Bool
@@ -28,37 +26,37 @@ years_before zero = 0
 years_before (suc k) = years_before k + year_days (leap_year (1600 + k))
 
 -- day d, month m and year y, all as written; day 0 is 01011600
-unfoldable pub day_is : ℕ → ℕ → ℕ → DayOf
+unfoldable pub day_is : ℕ → ℕ → ℕ → Option ℕ
 day_is d m y =
-    cond (ltb y 1600) NotADay
-    (cond (eqb m 0) NotADay
-    (cond (ltb 12 m) NotADay
-    (cond (eqb d 0) NotADay
-    (cond (ltb (days_in (m - 1) (leap_year y)) d) NotADay
-    (Day (years_before (y - 1600) + days_before (m - 1) (leap_year y) + (d - 1)))))))
+    cond (ltb y 1600) None
+    (cond (eqb m 0) None
+    (cond (ltb 12 m) None
+    (cond (eqb d 0) None
+    (cond (ltb (days_in (m - 1) (leap_year y)) d) None
+    (Some (years_before (y - 1600) + days_before (m - 1) (leap_year y) + (d - 1)))))))
 
 -- a date is a number DDMMYYYY
-unfoldable pub day_of : ℕ → DayOf
+unfoldable pub day_of : ℕ → Option ℕ
 day_of n = day_is (n / 1000000) (n / 10000 % 100) (n % 10000)
 
-abbrev pub is_day : DayOf → Bool
-is_day (Day d) = true
-is_day NotADay = false
+abbrev pub is_day : Option ℕ → Bool
+is_day (Some d) = true
+is_day None = false
 
 -- "first not after last"
-abbrev pub in_turn : DayOf → DayOf → Bool
-in_turn (Day a) (Day b) = leb a b
-in_turn (Day a) NotADay = false
-in_turn NotADay d = false
+abbrev pub in_turn : Option ℕ → Option ℕ → Bool
+in_turn (Some a) (Some b) = leb a b
+in_turn (Some a) None = false
+in_turn None d = false
 
 unfoldable pub period : ℕ → ℕ → Bool
 period first last = in_turn (day_of first) (day_of last)
 
 -- the days from the first to the last, both counted; 0 where there is no such span
-abbrev pub span_of : DayOf → DayOf → ℕ
-span_of (Day a) (Day b) = suc b - a
-span_of (Day a) NotADay = 0
-span_of NotADay d = 0
+abbrev pub span_of : Option ℕ → Option ℕ → ℕ
+span_of (Some a) (Some b) = suc b - a
+span_of (Some a) None = 0
+span_of None d = 0
 
 unfoldable pub span : ℕ → ℕ → ℕ
 span first last = span_of (day_of first) (day_of last)
@@ -67,21 +65,21 @@ span first last = span_of (day_of first) (day_of last)
 abbrev pub longest : ℕ
 longest = 800
 
-abbrev pub within : DayOf → DayOf → DayOf → Bool
-within (Day a) (Day d) (Day b) = leb a d && leb d b
-within (Day a) (Day d) NotADay = false
-within (Day a) NotADay b = false
-within NotADay d b = false
+abbrev pub within : Option ℕ → Option ℕ → Option ℕ → Bool
+within (Some a) (Some d) (Some b) = leb a d && leb d b
+within (Some a) (Some d) None = false
+within (Some a) None b = false
+within None d b = false
 
 -- a date lies in a span, its ends counted
 unfoldable pub in_period : ℕ → ℕ → ℕ → Bool
 in_period first date last = within (day_of first) (day_of date) (day_of last)
 
 -- the date's place in the span, from 0
-abbrev pub since : DayOf → DayOf → ℕ
-since (Day a) (Day d) = d - a
-since (Day a) NotADay = 0
-since NotADay d = 0
+abbrev pub since : Option ℕ → Option ℕ → ℕ
+since (Some a) (Some d) = d - a
+since (Some a) None = 0
+since None d = 0
 
 unfoldable pub day_in : ℕ → ℕ → ℕ
 day_in first date = since (day_of first) (day_of date)

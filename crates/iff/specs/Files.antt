@@ -1,5 +1,5 @@
 -- "The eleven files": by kind, their order, their need, their names, and a value for each.
-use Rattle.std.specs.Prelude.{ℕ, List, [], ◌∷◌, Bool, true, false}
+use Rattle.std.specs.Prelude.{ℕ, List, [], ◌∷◌, Bool, true, false, None, Option, Some}
 use Rattle.iff.specs.Bytes.{bytes}
 use Rattle.iff.specs.declared.RowFile.{RowFile}
 use Rattle.iff.specs.declared.RowFile.TheVariants.{Company, Country, Trnsmode, Stations}
@@ -8,7 +8,6 @@ use Rattle.iff.specs.declared.GroupFile.TheVariants.{Timezone, Footnote, Changes
 use Rattle.iff.specs.declared.File.{File}
 use Rattle.iff.specs.declared.File.TheVariants.{Delivery, Rows, Groups, Timetbls}
 use Rattle.iff.specs.declared.Place.{Place}
-use Rattle.iff.specs.declared.Place.TheVariants.{Nowhere, At}
 
 -- a value for each file: its bytes, its room, its table, its rows
 pub record PerFile (A : Type 0) : Type 0 where
@@ -92,9 +91,9 @@ file_number (Rows f) = row_file_number f
 file_number (Groups f) = group_file_number f
 file_number Timetbls = 8
 
-abbrev pub file_at : Place → ℕ
-file_at Nowhere = 0
-file_at (At f o l) = file_number f
+abbrev pub file_at : Option Place → ℕ
+file_at None = 0
+file_at (Some place) = file_number place.file
 
 -- "The last three may be absent, XFOOTNOTE only if XCHANGES is too": is a file needed, given which files are there?
 abbrev pub needed_groups : (File → Bool) → GroupFile → Bool

@@ -1,8 +1,6 @@
 -- "Lines end in CR LF; a remainder without it counts as a line."
-use Rattle.std.specs.Prelude.{ℕ, suc, ◌+◌, List, [], ◌∷◌, ◌++◌, Bool, true, false, ◌&&◌, cond, length, get_or, take, drop, eqb, ltb}
+use Rattle.std.specs.Prelude.{ℕ, suc, ◌+◌, List, [], ◌∷◌, ◌++◌, Bool, true, false, ◌&&◌, cond, length, get_or, take, drop, eqb, ltb, None, Option, Some}
 use Rattle.iff.specs.Bytes.{cr, lf, hash}
-use Rattle.iff.specs.declared.Eol.{Eol}
-use Rattle.iff.specs.declared.Eol.TheVariants.{Ended, Unended}
 
 pub record Line : Type 0 where
   pub body : List ℕ
@@ -47,8 +45,8 @@ width [] = 0
 width (b ∷ s) = cond (crlf b (get_or s 0 0)) 0 (suc (width s))
 
 -- where the line that starts at i ends, if CR LF ends it
-abbrev pub eol_at : List ℕ → ℕ → Eol
-eol_at s i = cond (ltb (i + width (drop i s)) (length s)) (Ended (i + width (drop i s))) Unended
+abbrev pub eol_at : List ℕ → ℕ → Option ℕ
+eol_at s i = cond (ltb (i + width (drop i s)) (length s)) (Some (i + width (drop i s))) None
 
 -- the first line of a text that is not empty
 abbrev pub first_line : List ℕ → Line

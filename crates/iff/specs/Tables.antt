@@ -1,5 +1,5 @@
 -- Tables: lent `u64` slices, a row per line, the first line included; unused places hold zero.
-use Rattle.std.specs.Prelude.{ℕ, zero, suc, ◌+◌, ◌-◌, ◌*◌, ◌/◌, List, [], ◌∷◌, ◌++◌, map, Bool, true, ◌&&◌, cond, length, get_or, take, drop, replicate, eqb, ltb}
+use Rattle.std.specs.Prelude.{ℕ, zero, suc, ◌+◌, ◌-◌, ◌*◌, ◌/◌, List, [], ◌∷◌, ◌++◌, map, Bool, true, ◌&&◌, cond, length, get_or, take, drop, replicate, eqb, ltb, None, Option, Some}
 use Rattle.iff.specs.Lists.{all, kept}
 use Rattle.iff.specs.Bytes.{hash}
 use Rattle.iff.specs.declared.RowFile.{RowFile}
@@ -8,8 +8,6 @@ use Rattle.iff.specs.declared.GroupFile.{GroupFile}
 use Rattle.iff.specs.declared.GroupFile.TheVariants.{Timezone, Footnote, Changes, Xfootnote, Xchanges}
 use Rattle.iff.specs.declared.File.{File}
 use Rattle.iff.specs.declared.File.TheVariants.{Delivery, Rows, Groups, Timetbls}
-use Rattle.iff.specs.declared.RowOf.{RowOf}
-use Rattle.iff.specs.declared.RowOf.TheVariants.{Row as RowIs, NoRow}
 
 -- a row's words; word 0 is the record's letter, or 1 where it has none, and never 0
 abbrev pub Row : Type 0
@@ -115,6 +113,6 @@ abbrev pub keyed : ℕ → ℕ → ℕ → Row → Bool
 keyed t col key r = eqb (tag r) t && eqb (word r col) key
 
 -- the first row that passes, counted from i
-unfoldable pub first_row : (Row → Bool) → ℕ → List Row → RowOf
-first_row p i [] = NoRow
-first_row p i (r ∷ rs) = cond (p r) (RowIs i) (first_row p (suc i) rs)
+unfoldable pub first_row : (Row → Bool) → ℕ → List Row → Option ℕ
+first_row p i [] = None
+first_row p i (r ∷ rs) = cond (p r) (Some i) (first_row p (suc i) rs)

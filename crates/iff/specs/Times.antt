@@ -1,7 +1,5 @@
 -- "Times. HHMM, hours 00 to 99, minutes 00 to 59. 9999 is no time."
-use Rattle.std.specs.Prelude.{ℕ, ◌+◌, ◌*◌, ◌/◌, ◌%◌, Bool, true, false, cond, ◌&&◌, eqb, ltb, ℤ, pos, ◌+ℤ◌, ◌-ℤ◌}
-use Rattle.iff.specs.declared.MinutesOf.{MinutesOf}
-use Rattle.iff.specs.declared.MinutesOf.TheVariants.{Minutes, NoMinutes}
+use Rattle.std.specs.Prelude.{ℕ, ◌+◌, ◌*◌, ◌/◌, ◌%◌, Bool, true, false, cond, ◌&&◌, eqb, ltb, ℤ, pos, ◌+ℤ◌, ◌-ℤ◌, None, Option, Some}
 use Rattle.iff.specs.declared.LocalMinutes.{LocalMinutes}
 use Rattle.iff.specs.declared.ReferenceMinutes.{ReferenceMinutes}
 
@@ -13,8 +11,8 @@ abbrev pub no_time : ℕ
 no_time = 9999
 
 -- a time's minutes; 9999 has none, and 9960 is no time either
-unfoldable pub minutes_of : ℕ → MinutesOf
-minutes_of t = cond (is_time t) (Minutes (t / 100 * 60 + t % 100)) NoMinutes
+unfoldable pub minutes_of : ℕ → Option ℕ
+minutes_of t = cond (is_time t) (Some (t / 100 * 60 + t % 100)) None
 
 -- "Day turn is below 2400 with minutes below 60."
 unfoldable pub is_turn : ℕ → Bool

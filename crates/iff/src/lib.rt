@@ -96,33 +96,36 @@ pub enum Reason {
     ShortList,
 }
 
-// Where: a file, a block's ordinal and a line; or nowhere, for the refusals whose place is 0, 0, 0.
+// Where something is refused: a file, a block's ordinal and a line. The refusals whose place is 0, 0, 0 have none.
 #[derive(Clone, Copy)]
-pub enum Place {
-    Nowhere,
-    At(File, u64, u64),
+pub struct Place {
+    pub file: File,
+    pub ordinal: u64,
+    pub line: u64,
+}
+
+// A refusal, with its place where it has one.
+#[derive(Clone, Copy)]
+pub struct Fault {
+    pub reason: Reason,
+    pub place: Option<Place>,
+}
+
+// What a load or an amendment that is accepted tells: the days and the services.
+#[derive(Clone, Copy)]
+pub struct Accepted {
+    pub days: u64,
+    pub services: u64,
 }
 
 // What the tests of one line say.
-#[derive(Clone, Copy)]
-pub enum Test {
-    Passes,
-    Fails(Reason),
-}
+pub type Test = Result<(), Reason>;
 
-// What the tests of lines, blocks and files say: the first fault, with its place.
-#[derive(Clone, Copy)]
-pub enum Verdict {
-    Fine,
-    Fault(Reason, Place),
-}
+// What the tests of lines, blocks and files say: nothing, or the first fault.
+pub type Verdict = Result<(), Fault>;
 
-// What a load or an amendment answers: the days and the services, or the refusal.
-#[derive(Clone, Copy)]
-pub enum Answer {
-    Accepted(u64, u64),
-    Refused(Reason, Place),
-}
+// What a load or an amendment answers.
+pub type Answer = Result<Accepted, Fault>;
 
 // Where the lines of a TIMETBLS block stand: before its `#`, or after which record. `Between` is after a passed station or a platform
 // record, where no platform record may follow.
@@ -155,44 +158,9 @@ pub enum GroupStand {
     Going,
 }
 
-// What a record's letter does there.
-#[derive(Clone, Copy)]
-pub enum Next {
-    Goes(Stand),
-    NotHere,
-}
-
-// Where a line's body ends, and whether CR LF ends it there.
-#[derive(Clone, Copy)]
-pub enum Eol {
-    Ended(usize),
-    Unended,
-}
-
-// A date as a day's number; 01011600 is day 0.
-#[derive(Clone, Copy)]
-pub enum DayOf {
-    Day(u64),
-    NotADay,
-}
-
-// A time as minutes; 9999 and what is no time have none.
-#[derive(Clone, Copy)]
-pub enum MinutesOf {
-    Minutes(u64),
-    NoMinutes,
-}
-
 // Minutes on a zone's own clock, and on the reference clock. Only the zone rule turns one into the other.
 #[derive(Clone, Copy)]
 pub struct LocalMinutes(pub i32);
 
 #[derive(Clone, Copy)]
 pub struct ReferenceMinutes(pub i32);
-
-// The row of a key in a table.
-#[derive(Clone, Copy)]
-pub enum RowOf {
-    Row(usize),
-    NoRow,
-}

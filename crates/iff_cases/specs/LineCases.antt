@@ -1,9 +1,8 @@
 -- "Lines end in CR LF; a remainder without it counts as a line."
 use Prim.{tt}
 use Prim.Native.String.{String}
-use Rattle.std.specs.Prelude.{refl, List, [], ◌∷◌, Bool, true, false}
+use Rattle.std.specs.Prelude.{refl, List, [], ◌∷◌, Bool, true, false, None, Some}
 use Rattle.iff.specs.Lines.{Line, lines, eol_at}
-use Rattle.iff.specs.declared.Eol.TheVariants.{Ended, Unended}
 use Rattle.iff.specs.Bytes.{bytes}
 use Rattle.small_delivery.specs.Claims.{Claim, claim, Hold}
 use Rattle.small_delivery.specs.Opened.{opened}
@@ -29,9 +28,9 @@ line_cases =
     claim "LF before CR LF" (lines (bytes "\n\r\n")) (line "\n" true ∷ []) ∷
     claim "CR at the end" (lines (bytes "a\r\nb\r")) (line "a" true ∷ line "b\r" false ∷ []) ∷
     -- a reader's view: where the line that starts at a place ends
-    claim "the first line's end" (eol_at (bytes "ab\r\nc") 0) (Ended 2) ∷
-    claim "the second line's end" (eol_at (bytes "ab\r\nc") 4) Unended ∷
-    claim "an empty line's end" (eol_at (bytes "a\r\n\r\n") 3) (Ended 3) ∷
+    claim "the first line's end" (eol_at (bytes "ab\r\nc") 0) (Some 2) ∷
+    claim "the second line's end" (eol_at (bytes "ab\r\nc") 4) None ∷
+    claim "an empty line's end" (eol_at (bytes "a\r\n\r\n") 3) (Some 3) ∷
     []
 
 pub line_cases_hold : Hold line_cases

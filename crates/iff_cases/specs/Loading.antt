@@ -1,6 +1,6 @@
 -- A load: the answer, and the eleven tables in full.
 use Prim.{tt}
-use Rattle.std.specs.Prelude.{ℕ, ◌≡◌, refl, List, [], ◌∷◌, replicate}
+use Rattle.std.specs.Prelude.{ℕ, ◌≡◌, refl, List, [], ◌∷◌, replicate, Ok, Option}
 use Rattle.std.proofs.Common.{◌∙◌}
 use Rattle.iff.specs.Files.{PerFile, of, per_file, in_order}
 use Rattle.iff.specs.declared.RowFile.TheVariants.{Company, Country, Trnsmode, Stations}
@@ -9,9 +9,6 @@ use Rattle.iff.specs.declared.File.{File}
 use Rattle.iff.specs.declared.File.TheVariants.{Delivery, Rows, Groups, Timetbls}
 use Rattle.iff.specs.declared.Reason.{Reason}
 use Rattle.iff.specs.declared.Reason.TheVariants.{Reference}
-use Rattle.iff.specs.declared.Place.{Place}
-use Rattle.iff.specs.declared.Place.TheVariants.{At}
-use Rattle.iff.specs.declared.Verdict.TheVariants.{Fine, Fault}
 use Rattle.iff_rules.specs.Rows.{rows_of_files}
 use Rattle.iff_rules.specs.Load.{load_verdict, load_answer, filled, load_table}
 use Rattle.small_delivery.specs.Claims.{Claim, claim, Holds, Hold, each, each_hold}
@@ -20,14 +17,16 @@ use Rattle.small_delivery.specs.Delivery.{small, files, put, edit}
 use Rattle.small_delivery.specs.Shown.{accepted, refused, shown, XCHANGES, file}
 use Rattle.small_delivery.specs.Check.{eight_hundred, last_stop, checked}
 use Rattle.small_delivery.specs.Stored.{stored, rooms}
+use Rattle.iff.specs.Refusals.{at_place, fault_at}
+use Rattle.iff.specs.declared.Place.{Place}
 
 -- the table of a load that finds no fault, and of one that finds one
-accepted_table : (F : PerFile (List ℕ)) (R : PerFile ℕ) → load_verdict F R ≡ Fine
+accepted_table : (F : PerFile (List ℕ)) (R : PerFile ℕ) → load_verdict F R ≡ Ok tt
     → (f : File) → load_table f F R ≡ filled f (of R f) (of (rows_of_files F) f)
 unfolding load_table
 accepted_table F R fine f = rw fine
 
-refused_table : (F : PerFile (List ℕ)) (R : PerFile ℕ) (r : Reason) (p : Place) → load_verdict F R ≡ Fault r p
+refused_table : (F : PerFile (List ℕ)) (R : PerFile ℕ) (r : Reason) (p : Option Place) → load_verdict F R ≡ fault_at r p
     → (f : File) → load_table f F R ≡ replicate (of R f) 0
 unfolding load_table
 refused_table F R r p fault f = rw fault
@@ -43,7 +42,7 @@ small_answer = claim "the small delivery" (shown (load_answer (files small) room
 abbrev pub loading : List Claim
 loading = small_answer ∷ each small_table in_order
 
-small_fine : load_verdict (files small) rooms ≡ Fine
+small_fine : load_verdict (files small) rooms ≡ Ok tt
 unfolding opened
 small_fine = refl
 
@@ -83,7 +82,7 @@ zero_table f = claim (file f) (load_table f faulty rooms) (replicate (of rooms f
 abbrev pub zeroing : List Claim
 zeroing = faulty_answer ∷ each zero_table in_order
 
-faulty_verdict : load_verdict faulty rooms ≡ Fault Reference (At (Groups Xchanges) 0 7)
+faulty_verdict : load_verdict faulty rooms ≡ fault_at Reference (at_place (Groups Xchanges) 0 7)
 unfolding opened
 faulty_verdict = refl
 
@@ -93,7 +92,7 @@ faulty_answers = refl
 
 pub zeroing_hold : Hold zeroing
 zeroing_hold =
-    (faulty_answers, each_hold zero_table in_order (refused_table faulty rooms Reference (At (Groups Xchanges) 0 7) faulty_verdict))
+    (faulty_answers, each_hold zero_table in_order (refused_table faulty rooms Reference (at_place (Groups Xchanges) 0 7) faulty_verdict))
 
 -- the first line's row, the footnote's, and a vector of 800 ones
 abbrev eight_hundred_days : List ℕ

@@ -1,24 +1,21 @@
 -- "Settled cases": P1 to P12, one statement over one list, through the definitions that contracts cite.
 use Prim.{tt}
-use Rattle.std.specs.Prelude.{ℕ, ◌+◌, refl, List, [], ◌∷◌, ◌++◌, true, false, pos, negsuc}
+use Rattle.std.specs.Prelude.{ℕ, ◌+◌, refl, List, [], ◌∷◌, ◌++◌, true, false, pos, negsuc, None, Some}
 use Rattle.iff.specs.Bytes.{dash}
 use Rattle.iff.specs.Days.{day_of, is_day, period, span}
 use Rattle.iff.specs.Times.{is_time, minutes_of, reference_of, gap_of}
 use Rattle.iff.specs.Tables.{Row}
-use Rattle.iff.specs.declared.DayOf.TheVariants.{Day, NotADay}
-use Rattle.iff.specs.declared.MinutesOf.TheVariants.{Minutes, NoMinutes}
 use Rattle.iff_rules.specs.Meaning.{first_meaning}
 use Rattle.iff_rules.specs.Legs.{covering, covered, of_kind, reach_of, legs}
 use Rattle.iff_desk.specs.Changing.{from_keys, to_keys, rank, better, best, core}
 use Rattle.iff_desk.specs.declared.Source.TheVariants.{FromChanges, FromStations, FromXchanges}
 use Rattle.iff_desk.specs.declared.Change.TheVariants.{NoShort, Yes, Unsettled}
-use Rattle.iff_desk.specs.declared.Pair.TheVariants.{Possibility, NoPair}
-use Rattle.iff_desk.specs.declared.Best.TheVariants.{BestRow, NoBest}
 use Rattle.small_delivery.specs.Claims.{Claim, claim, Hold, both_hold}
 use Rattle.small_delivery.specs.Opened.{opened}
 use Rattle.small_delivery.specs.Shown.{accepted, refused, DELIVERY, TIMETBLS, load_of}
 use Rattle.small_delivery.specs.Stored.{AAA, BBB, CCC}
 use Rattle.small_delivery.specs.Check.{eight_hundred, eight_hundred_and_one, last_stop, checked}
+use Rattle.iff_desk.specs.Card.{best_of}
 
 -- P3: the row of a first line of those days
 abbrev first_row : ℕ → Row
@@ -77,9 +74,9 @@ spans =
     -- "If its `<` names a station not in STATIONS, the second line is `refused 9 TIMETBLS 1 6`"
     claim "the check program's refusal" (load_of (checked eight_hundred 800 "<CCC    ,1000")) (refused 9 TIMETBLS 1 6) ∷
     -- 29022000 is a day; 29021900 is not (01011600 is day 0: 400 years are 146097 days, and 29022000 comes 59 days after 01012000)
-    claim "P4: 29022000" (day_of 29022000) (Day 146156) ∷
+    claim "P4: 29022000" (day_of 29022000) (Some 146156) ∷
     claim "P4: 29022000 is a day" (is_day (day_of 29022000)) true ∷
-    claim "P4: 29021900" (day_of 29021900) NotADay ∷
+    claim "P4: 29021900" (day_of 29021900) None ∷
     []
 
 pub spans_hold : Hold spans
@@ -90,12 +87,12 @@ spans_hold = (refl, (refl, (refl, (refl, (refl, (refl, (refl, (refl, (refl, (ref
 abbrev pub clocks : List Claim
 clocks =
     -- 0000 is 0, 2500 is 1500, 9959 is 5999; 9960 is refused; 9999 is none
-    claim "P5: 0000" (minutes_of 0) (Minutes 0) ∷
-    claim "P5: 2500" (minutes_of 2500) (Minutes 1500) ∷
-    claim "P5: 9959" (minutes_of 9959) (Minutes 5999) ∷
+    claim "P5: 0000" (minutes_of 0) (Some 0) ∷
+    claim "P5: 2500" (minutes_of 2500) (Some 1500) ∷
+    claim "P5: 9959" (minutes_of 9959) (Some 5999) ∷
     claim "P5: 9960 is no time" (is_time 9960) false ∷
     claim "P5: 9960 is refused" (load_of (checked eight_hundred 800 "<BBB    ,9960")) (refused 5 TIMETBLS 1 6) ∷
-    claim "P5: 9999" (minutes_of 9999) NoMinutes ∷
+    claim "P5: 9999" (minutes_of 9999) None ∷
     -- zone -01, 2500: reference 1560
     claim "P6" (reference_of (record { 0 = pos 1500 }) true 1) (record { 0 = pos 1560 }) ∷
     -- zone +01, 0030: reference -30
@@ -132,18 +129,18 @@ covers_hold = (refl, (refl, (refl, (refl, (refl, (refl, (refl, tt)))))))
 abbrev pub changes : List Claim
 changes =
     -- station time 99: gap 98 No, 99 Unsettled. XCHANGES 099: gap 99 Yes
-    claim "P10: gap 98" (core (pos 98) NoPair 1 NoBest 99) (NoShort (pos 98) FromStations 99) ∷
-    claim "P10: gap 99" (core (pos 99) NoPair 1 NoBest 99) (Unsettled (pos 99) FromStations 99) ∷
-    claim "P10: XCHANGES 099" (core (pos 99) NoPair 1 (BestRow 8 99) 5) (Yes (pos 99) FromXchanges 99) ∷
+    claim "P10: gap 98" (core (pos 98) None 1 None 99) (NoShort (pos 98) FromStations 99) ∷
+    claim "P10: gap 99" (core (pos 99) None 1 None 99) (Unsettled (pos 99) FromStations 99) ∷
+    claim "P10: XCHANGES 099" (core (pos 99) None 1 (best_of 8 99) 5) (Yes (pos 99) FromXchanges 99) ∷
     -- CHANGES 01: gap 0 Yes, gap -1 No
-    claim "P11: gap 0" (core (pos 0) (Possibility 1) 1 NoBest 5) (Yes (pos 0) FromChanges 0) ∷
-    claim "P11: gap -1" (core (negsuc 0) (Possibility 1) 1 NoBest 5) (NoShort (negsuc 0) FromChanges 0) ∷
+    claim "P11: gap 0" (core (pos 0) (Some 1) 1 None 5) (Yes (pos 0) FromChanges 0) ∷
+    claim "P11: gap -1" (core (negsuc 0) (Some 1) 1 None 5) (NoShort (negsuc 0) FromChanges 0) ∷
     -- row 100,`*`,`*`,`*` (8) beats `*`,IC,200,IC (7)
     claim "P12: rank 8" (rank (from_keys explicit_company) (to_keys explicit_company)) 8 ∷
     claim "P12: rank 7" (rank (from_keys explicit_others) (to_keys explicit_others)) 7 ∷
-    claim "P12: 8 beats 7" (better (BestRow 7 20) 8 10) (BestRow 8 10) ∷
-    claim "P12: 8 first" (best NoBest (explicit_company ∷ explicit_others ∷ [])) (BestRow 8 10) ∷
-    claim "P12: 8 last" (best NoBest (explicit_others ∷ explicit_company ∷ [])) (BestRow 8 10) ∷
+    claim "P12: 8 beats 7" (better (best_of 7 20) 8 10) (best_of 8 10) ∷
+    claim "P12: 8 first" (best None (explicit_company ∷ explicit_others ∷ [])) (best_of 8 10) ∷
+    claim "P12: 8 last" (best None (explicit_others ∷ explicit_company ∷ [])) (best_of 8 10) ∷
     []
 
 pub changes_hold : Hold changes

@@ -1,17 +1,14 @@
 -- "Amendment. Lent: tables, a service, a block."
-use Rattle.std.specs.Prelude.{ℕ, suc, ◌+◌, List, [], ◌∷◌, ◌++◌, cond, length, take, drop, eqb}
+use Rattle.std.specs.Prelude.{ℕ, suc, ◌+◌, List, [], ◌∷◌, ◌++◌, cond, length, take, drop, eqb, None}
 use Rattle.iff.specs.Lists.{Group, groups, flat, front, position, total}
-use Rattle.iff.specs.Refusals.{first_fault, fine, answer}
+use Rattle.iff.specs.Refusals.{first_fault, fine, answer, Answer, Verdict}
 use Rattle.iff.specs.Files.{PerFile}
 use Rattle.iff.specs.Lines.{lines, text, is_hash}
 use Rattle.iff.specs.Tables.{Row, is_hash_row, row_width, fill}
 use Rattle.iff.specs.Words.{named}
 use Rattle.iff.specs.declared.File.TheVariants.{Timetbls}
 use Rattle.iff.specs.declared.Reason.TheVariants.{NotOneBlock, NoService, NotSound}
-use Rattle.iff.specs.declared.Place.TheVariants.{Nowhere}
 use Rattle.iff.specs.declared.Form.{Form}
-use Rattle.iff.specs.declared.Verdict.{Verdict}
-use Rattle.iff.specs.declared.Answer.{Answer}
 use Rattle.iff_rules.specs.Rows.{block_rows, as_block, Context, context_of}
 use Rattle.iff_rules.specs.References.{names}
 use Rattle.iff_rules.specs.Load.{fault_unless, length_verdict, room_verdict, block_verdict, service_of}
@@ -47,9 +44,9 @@ amend_verdict T s b =
     let c = context_of R in
     let k = place_of s R.timetbls in
     first_fault
-    (fault_unless (sound T) NotSound Nowhere
-    ∷ fault_unless (is_one_block s (lines b)) NotOneBlock Nowhere
-    ∷ fault_unless (names c Timetbls s) NoService Nowhere
+    (fault_unless (sound T) NotSound None
+    ∷ fault_unless (is_one_block s (lines b)) NotOneBlock None
+    ∷ fault_unless (names c Timetbls s) NoService None
     ∷ length_verdict Timetbls (edited_length c k R.timetbls b)
     ∷ room_verdict Timetbls (edited_lines k R.timetbls b) (length T.timetbls)
     ∷ block_verdict c (take k (c.keys Timetbls)) (suc k) (as_block b)

@@ -1,7 +1,8 @@
 -- The desk's card, request W3: "a table of sixteen entries in the order of the desk's own card, from all wildcards to none". docs/CARD.md has it for
 -- the desk, line by line.
-use Rattle.std.specs.Prelude.{ℕ, List, [], ◌∷◌, Bool, true, false, ◌&&◌, not, eqb}
+use Rattle.std.specs.Prelude.{ℕ, List, [], ◌∷◌, Bool, true, false, ◌&&◌, not, eqb, Option, Some}
 use Rattle.iff.specs.Lists.{position}
+use Rattle.iff_desk.specs.declared.Best.{Best}
 
 -- an exception's four keys: which of them are named, and not wildcards
 pub record Pattern : Type 0 where
@@ -61,3 +62,7 @@ place_of p = position (same_pattern p) card
 -- a key is named where it is not the wildcard
 abbrev pub is_named : ℕ → ℕ → Bool
 is_named wildcard key = not (eqb key wildcard)
+
+-- a row of XCHANGES that applies: its rank and its time
+abbrev pub best_of : ℕ → ℕ → Option Best
+best_of rank time = Some (record { rank = rank; time = time })

@@ -1,40 +1,33 @@
 -- "Change: from service A at stop i (2 to n) on its date to B at stop j (1 to n-1) on its date."
-use Rattle.std.specs.Prelude.{ℕ, ◌-◌, List, [], ◌∷◌, Bool, true, false, ◌&&◌, ◌||◌, not, cond, drop, eqb, ltb, leb, ℤ, pos}
+use Rattle.std.specs.Prelude.{ℕ, ◌-◌, List, [], ◌∷◌, Bool, true, false, ◌&&◌, ◌||◌, not, cond, drop, eqb, ltb, leb, ℤ, pos, Err, None, Ok, Option, Some, Result}
 use Rattle.std.specs.Int.Signed.{lt_z}
 use Rattle.iff.specs.Bytes.{percent, ampersand}
 use Rattle.iff.specs.Lists.{kept}
-use Rattle.iff.specs.Refusals.{or_test, first_test, unless}
+use Rattle.iff.specs.Refusals.{or_test, first_test, unless, Test}
 use Rattle.iff.specs.Files.{PerFile}
 use Rattle.iff.specs.Times.{gap_of}
 use Rattle.iff.specs.Tables.{Row}
 use Rattle.iff.specs.Words.{named, from_service, to_service, possibility, from_company, from_mode, to_company, to_mode, exception_time, exception_footnote, change_flag, change_time}
 use Rattle.iff.specs.declared.Reason.TheVariants.{NoPeriod, NotSound}
-use Rattle.iff.specs.declared.Test.{Test}
-use Rattle.iff.specs.declared.Test.TheVariants.{Passes, Fails}
 use Rattle.iff_rules.specs.References.{any_company, any_mode}
 use Rattle.iff_rules.specs.Legs.{stops_of}
 use Rattle.iff_desk.specs.Sound.{sound, rows_of_tables}
 use Rattle.iff_desk.specs.Store.{service_rows, group_of, stop_at, record_on, station_row, day_on, marked, vector_of}
 use Rattle.iff_desk.specs.Running.{asked, runs_on, is_leg}
 use Rattle.iff_desk.specs.Stops.{may_alight, may_board, arrival_on, departure_on}
-use Rattle.iff_desk.specs.Card.{Pattern, pattern, place_of, is_named}
-use Rattle.iff_desk.specs.declared.TimeOf.{TimeOf}
-use Rattle.iff_desk.specs.declared.TimeOf.TheVariants.{At, NoTime}
-use Rattle.iff_desk.specs.declared.ToldTime.{ToldTime}
-use Rattle.iff_desk.specs.declared.ToldTime.TheVariants.{Told, Untold}
+use Rattle.iff_desk.specs.Card.{Pattern, pattern, place_of, is_named, best_of}
 use Rattle.iff_desk.specs.declared.Early.{Early}
 use Rattle.iff_desk.specs.declared.Early.TheVariants.{SameService, FromRests, ToRests, StationsDiffer, NobodyAlights, NobodyBoards}
 use Rattle.iff_desk.specs.declared.Source.{Source}
 use Rattle.iff_desk.specs.declared.Source.TheVariants.{FromChanges, FromStations, FromXchanges}
 use Rattle.iff_desk.specs.declared.Bar.TheVariants.{Pair00, Flag0}
 use Rattle.iff_desk.specs.declared.Change.{Change}
-use Rattle.iff_desk.specs.declared.Change.TheVariants.{ChangeRefused, NoBefore, NoBarred, NoShort, Yes, Unsettled}
+use Rattle.iff_desk.specs.declared.Change.TheVariants.{NoBefore, NoBarred, NoShort, Yes, Unsettled}
 use Rattle.iff_desk.specs.declared.Call.{Call}
 use Rattle.iff_desk.specs.declared.Riding.{Riding}
-use Rattle.iff_desk.specs.declared.Pair.{Pair}
-use Rattle.iff_desk.specs.declared.Pair.TheVariants.{Possibility, NoPair}
 use Rattle.iff_desk.specs.declared.Best.{Best}
-use Rattle.iff_desk.specs.declared.Best.TheVariants.{BestRow, NoBest}
+use Rattle.iff_desk.specs.declared.Moment.{Moment}
+use Rattle.iff.specs.declared.Reason.{Reason}
 
 -- one side of a change as it is asked: a service, a stop, a date
 pub record Side : Type 0 where
@@ -48,11 +41,11 @@ call_of R A = record { service = A.service; stop = A.stop; day = day_on R A.date
 
 -- THE NEEDED TIME
 -- "CHANGES pair there"
-abbrev pub pair_in : List Row → Pair
-pair_in [] = NoPair
-pair_in (r ∷ rs) = Possibility (possibility r)
+abbrev pub pair_in : List Row → Option ℕ
+pair_in [] = None
+pair_in (r ∷ rs) = Some (possibility r)
 
-unfoldable pub pair_at : PerFile (List Row) → ℕ → ℕ → ℕ → Pair
+unfoldable pub pair_at : PerFile (List Row) → ℕ → ℕ → ℕ → Option ℕ
 pair_at R station a b = pair_in (kept (λ r. eqb (from_service r) a && eqb (to_service r) b) (drop 1 (group_of station R.changes)))
 
 -- company and mode of a service on a leg
@@ -87,19 +80,19 @@ unfoldable pub rank : Riding → Riding → ℕ
 rank from to = place_of (pattern_of from to)
 
 -- "Highest rank wins, then the larger time."
-unfoldable pub better : Best → ℕ → ℕ → Best
-better NoBest k t = BestRow k t
-better (BestRow h s) k t = cond (ltb h k) (BestRow k t) (cond (ltb k h) (BestRow h s) (cond (ltb s t) (BestRow k t) (BestRow h s)))
+unfoldable pub better : Option Best → ℕ → ℕ → Option Best
+better None k t = best_of k t
+better (Some best) k t = cond (ltb best.rank k) (best_of k t) (cond (ltb k best.rank) (best_of best.rank best.time) (cond (ltb best.time t) (best_of k t) (best_of best.rank best.time)))
 
-unfoldable pub best : Best → List Row → Best
+unfoldable pub best : Option Best → List Row → Option Best
 best b [] = b
 best b (r ∷ rs) = best (better b (rank (from_keys r) (to_keys r)) (exception_time r)) rs
 
-unfoldable pub best_at : PerFile (List Row) → ℕ → Riding → Riding → ℕ → Best
-best_at R station a b d = best NoBest (kept (applies R a b d) (drop 1 (group_of station R.xchanges)))
+unfoldable pub best_at : PerFile (List Row) → ℕ → Riding → Riding → ℕ → Option Best
+best_at R station a b d = best None (kept (applies R a b d) (drop 1 (group_of station R.xchanges)))
 
 -- the best row of XCHANGES for a change, at the station of A's stop
-abbrev pub best_between : PerFile (List Row) → Call → Call → Best
+abbrev pub best_between : PerFile (List Row) → Call → Call → Option Best
 best_between R A B =
     let a_rows = service_rows R A.service in
     best_at R (named (stop_at a_rows A.stop)) (riding_on a_rows (A.stop - 1)) (riding_on (service_rows R B.service) B.stop) A.day
@@ -111,14 +104,14 @@ settled gap source needed at_top =
     cond (lt_z gap (pos needed)) (NoShort gap source needed) (cond at_top (Unsettled gap source needed) (Yes gap source needed))
 
 -- "best XCHANGES row; the station's change time": "Unsettled if needed is 99 from STATIONS or 999 from XCHANGES"
-unfoldable pub by_time : ℤ → Best → ℕ → Change
-by_time gap (BestRow rank time) station_time = settled gap FromXchanges time (eqb time 999)
-by_time gap NoBest station_time = settled gap FromStations station_time (eqb station_time 99)
+unfoldable pub by_time : ℤ → Option Best → ℕ → Change
+by_time gap (Some best) station_time = settled gap FromXchanges best.time (eqb best.time 999)
+by_time gap None station_time = settled gap FromStations station_time (eqb station_time 99)
 
 -- "first that applies: CHANGES pair there (00: No; 01 and 02: needed 0); flag 0: No; best XCHANGES row; the station's change time"
-unfoldable pub core : ℤ → Pair → ℕ → Best → ℕ → Change
-core gap (Possibility p) flag best time = cond (eqb p 0) (NoBarred gap Pair00) (settled gap FromChanges 0 false)
-core gap NoPair flag best time = cond (eqb flag 0) (NoBarred gap Flag0) (by_time gap best time)
+unfoldable pub core : ℤ → Option ℕ → ℕ → Option Best → ℕ → Change
+core gap (Some p) flag best time = cond (eqb p 0) (NoBarred gap Pair00) (settled gap FromChanges 0 false)
+core gap None flag best time = cond (eqb flag 0) (NoBarred gap Flag0) (by_time gap best time)
 
 -- "Then No, by the first that holds: same service and date; A doesn't run on leg i-1; B doesn't run on leg j; stations differ; nobody alights; nobody boards. Then 15."
 pub data Hurdle : Type 0 where
@@ -138,30 +131,30 @@ first_hurdle [] = clear
 first_hurdle (s ∷ ss) = or_hurdle s (first_hurdle ss)
 
 -- the gap, where both times are there
-abbrev pub gap_between : TimeOf → ℕ → TimeOf → ℕ → ℤ
-gap_between (At la ra) da (At lb rb) db = gap_of ra da rb db
-gap_between (At la ra) da NoTime db = pos 0
-gap_between NoTime da t db = pos 0
+abbrev pub gap_between : Option Moment → ℕ → Option Moment → ℕ → ℤ
+gap_between (Some moment) da (Some moment2) db = gap_of moment.reference da moment2.reference db
+gap_between (Some moment) da None db = pos 0
+gap_between None da t db = pos 0
 
 -- "Then 15.", of A's arrival and of B's departure
-abbrev pub is_told : ToldTime → Bool
-is_told (Told t) = true
-is_told Untold = false
+abbrev pub is_told : Option (Option Moment) → Bool
+is_told (Some t) = true
+is_told None = false
 
-abbrev pub time_told : ToldTime → TimeOf
-time_told (Told t) = t
-time_told Untold = NoTime
+abbrev pub time_told : Option (Option Moment) → Option Moment
+time_told (Some t) = t
+time_told None = None
 
-abbrev pub told_test : ToldTime → ToldTime → Test
+abbrev pub told_test : Option (Option Moment) → Option (Option Moment) → Test
 told_test a d = first_test (unless (is_told a) NoPeriod ∷ unless (is_told d) NoPeriod ∷ [])
 
-abbrev pub after_hurdles : Hurdle → Test → Change → Change
-after_hurdles (stop e) t c = NoBefore e
-after_hurdles clear (Fails r) c = ChangeRefused r
-after_hurdles clear Passes c = c
+abbrev pub after_hurdles : Hurdle → Test → Change → Result Change Reason
+after_hurdles (stop e) t c = Ok (NoBefore e)
+after_hurdles clear (Err r) c = Err r
+after_hurdles clear (Ok _) c = Ok c
 
 -- the core: services that are there, stops and days that are right, on sound tables; by A's arrival, B's departure and the best row of XCHANGES
-unfoldable pub core_by : PerFile (List Row) → Call → Call → ToldTime → ToldTime → Best → Change
+unfoldable pub core_by : PerFile (List Row) → Call → Call → Option (Option Moment) → Option (Option Moment) → Option Best → Result Change Reason
 core_by R A B arrival departure best =
     let a_rows = service_rows R A.service in
     let b_rows = service_rows R B.service in
@@ -187,7 +180,7 @@ core_by R A B arrival departure best =
     best
     (change_time (station_row R station)))
 
-unfoldable pub core_change : PerFile (List Row) → Call → Call → Change
+unfoldable pub core_change : PerFile (List Row) → Call → Call → Result Change Reason
 core_change R A B =
     core_by R A B (arrival_on R (stop_at (service_rows R A.service) A.stop) A.day)
     (departure_on R (stop_at (service_rows R B.service) B.stop) B.day) (best_between R A B)
@@ -199,13 +192,13 @@ precheck R A B =
     (asked R A.service (leb 2 A.stop && leb A.stop (stops_of (service_rows R A.service))) A.date)
     (asked R B.service (is_leg (service_rows R B.service) B.stop) B.date)
 
-abbrev pub change_after : Test → Change → Change
-change_after Passes c = c
-change_after (Fails r) c = ChangeRefused r
+abbrev pub change_after : Test → Result Change Reason → Result Change Reason
+change_after (Ok _) c = c
+change_after (Err r) c = Err r
 
-abbrev pub change_in : Bool → PerFile (List Row) → Side → Side → Change
-change_in false R A B = ChangeRefused NotSound
+abbrev pub change_in : Bool → PerFile (List Row) → Side → Side → Result Change Reason
+change_in false R A B = Err NotSound
 change_in true R A B = change_after (precheck R A B) (core_change R (call_of R A) (call_of R B))
 
-unfoldable pub change : PerFile (List ℕ) → Side → Side → Change
+unfoldable pub change : PerFile (List ℕ) → Side → Side → Result Change Reason
 change T A B = change_in (sound T) (rows_of_tables T) A B

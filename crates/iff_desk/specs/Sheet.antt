@@ -1,14 +1,14 @@
 -- Request W12, a sheet at a time: "a call that takes a list of questions, tests once, and fills a lent list of answers, each the one that the single
 -- question gives". A question is six words: service, stop and date to change from, and to change to.
-use Rattle.std.specs.Prelude.{ℕ, zero, suc, ◌+◌, ◌*◌, ◌/◌, List, [], ◌∷◌, length, leb}
+use Rattle.std.specs.Prelude.{ℕ, zero, suc, ◌+◌, ◌*◌, ◌/◌, List, [], ◌∷◌, length, leb, Result}
 use Rattle.iff.specs.Files.{PerFile}
-use Rattle.iff.specs.Refusals.{first_test, unless}
+use Rattle.iff.specs.Refusals.{first_test, unless, Test}
 use Rattle.iff.specs.Tables.{word}
 use Rattle.iff.specs.declared.Reason.TheVariants.{NotSound, ShortList}
-use Rattle.iff.specs.declared.Test.{Test}
 use Rattle.iff_desk.specs.Sound.{sound}
 use Rattle.iff_desk.specs.Changing.{Side, change}
 use Rattle.iff_desk.specs.declared.Change.{Change}
+use Rattle.iff.specs.declared.Reason.{Reason}
 
 -- how many words a question has, and an answer
 abbrev pub question_width : ℕ
@@ -35,12 +35,12 @@ abbrev pub to_at : List ℕ → ℕ → Side
 to_at qs q = side_at qs (q * question_width + 3)
 
 -- n questions from question q on, each answered by itself
-unfoldable pub answers_by : (Side → Side → Change) → List ℕ → ℕ → ℕ → List Change
+unfoldable pub answers_by : (Side → Side → Result Change Reason) → List ℕ → ℕ → ℕ → List (Result Change Reason)
 answers_by answer qs q zero = []
 answers_by answer qs q (suc n) = answer (from_at qs q) (to_at qs q) ∷ answers_by answer qs (suc q) n
 
 -- "each the one that the single question gives"
-abbrev pub answers_to : PerFile (List ℕ) → List ℕ → List Change
+abbrev pub answers_to : PerFile (List ℕ) → List ℕ → List (Result Change Reason)
 answers_to T qs = answers_by (change T) qs 0 (asked qs)
 
 -- "23 answer list shorter than the questions"

@@ -1,5 +1,5 @@
 -- What the questions read of a loaded store: a service's rows, its stops and records, a station's row, a zone's period, a footnote's vector.
-use Rattle.std.specs.Prelude.{ℕ, ◌+◌, ◌-◌, ◌/◌, ◌%◌, ◌^◌, List, [], ◌∷◌, Bool, true, false, not, get_or, drop, eqb}
+use Rattle.std.specs.Prelude.{ℕ, ◌+◌, ◌-◌, ◌/◌, ◌%◌, ◌^◌, List, [], ◌∷◌, Bool, true, false, not, get_or, drop, eqb, None, Option, Some}
 use Rattle.iff.specs.Lists.{Group, groups, members, kept}
 use Rattle.iff.specs.Files.{PerFile}
 use Rattle.iff.specs.Days.{in_period, day_in, day_of, within}
@@ -8,8 +8,6 @@ use Rattle.iff.specs.Words as words
 use Rattle.iff.specs.Words.{named, period_first, period_last, station_zone}
 use Rattle.iff.specs.declared.RowFile.TheVariants.{Stations}
 use Rattle.iff.specs.declared.File.TheVariants.{Rows}
-use Rattle.iff.specs.declared.DayOf.{DayOf}
-use Rattle.iff.specs.declared.DayOf.TheVariants.{Day, NotADay}
 use Rattle.iff_rules.specs.Order.{is_stop}
 use Rattle.iff_rules.specs.Rows.{first_of}
 use Rattle.iff_rules.specs.Legs.{lies, of_kind}
@@ -57,9 +55,9 @@ abbrev pub is_valid : PerFile (List Row) → ℕ → Bool
 is_valid R date = in_period (first_day R) date (last_day R)
 
 -- the number of a day
-abbrev pub day_number : DayOf → ℕ
-day_number (Day n) = n
-day_number NotADay = 0
+abbrev pub day_number : Option ℕ → ℕ
+day_number (Some n) = n
+day_number None = 0
 
 -- "counted from the first day"
 abbrev pub day_on : PerFile (List Row) → ℕ → ℕ
@@ -79,7 +77,7 @@ number_on R d = day_number (day_of (first_day R)) + d
 
 -- a zone's period holds a day
 unfoldable pub holds : ℕ → Row → Bool
-holds day r = within (day_of (period_first r)) (Day day) (day_of (period_last r))
+holds day r = within (day_of (period_first r)) (Some day) (day_of (period_last r))
 
 -- the period of a zone that holds a day
 unfoldable pub period_of : List Row → ℕ → ℕ → Row

@@ -1,41 +1,21 @@
 // What the desk's questions answer. The number and values that the paper gives each case are in specs/Answers.antt.
 #![tactic(auto)]
 
-use iff::{LocalMinutes, Reason, ReferenceMinutes};
+use iff::{LocalMinutes, ReferenceMinutes};
 
-// Running day: does the service run on that leg on that date?
+// A time of a stop, on the zone's clock and on the reference clock.
 #[derive(Clone, Copy)]
-pub enum Running {
-    Runs,
-    Rests,
-    RunningRefused(Reason),
+pub struct Moment {
+    pub local: LocalMinutes,
+    pub reference: ReferenceMinutes,
 }
 
-// A time of a stop, on the zone's clock and on the reference clock; or none.
-#[derive(Clone, Copy)]
-pub enum TimeOf {
-    At(LocalMinutes, ReferenceMinutes),
-    NoTime,
-}
-
-// A time by the period that holds its own day: told, or not, where the zone has no period on that day.
-#[derive(Clone, Copy)]
-pub enum ToldTime {
-    Told(TimeOf),
-    Untold,
-}
-
+// A stop's times: none where nobody alights, or nobody boards.
 #[derive(Clone, Copy)]
 pub struct StopTimes {
     pub station: u64,
-    pub arrival: TimeOf,
-    pub departure: TimeOf,
-}
-
-#[derive(Clone, Copy)]
-pub enum StopTime {
-    Times(StopTimes),
-    StopTimeRefused(Reason),
+    pub arrival: Option<Moment>,
+    pub departure: Option<Moment>,
 }
 
 // Why a change is a No before a gap is reached.
@@ -64,11 +44,10 @@ pub enum Bar {
     Flag0,
 }
 
-// A change: refused; No before a gap is reached; No that a pair or a flag brings about, with the gap; then, with gap, source and needed time, No
+// A change: No before a gap is reached; No that a pair or a flag brings about, with the gap; then, with gap, source and needed time, No
 // because the gap is too short, Yes, or Unsettled.
 #[derive(Clone, Copy)]
 pub enum Change {
-    ChangeRefused(Reason),
     NoBefore(Early),
     NoBarred(i32, Bar),
     NoShort(i32, Source, u64),
@@ -91,23 +70,9 @@ pub struct Riding {
     pub mode: u64,
 }
 
-// The row of CHANGES for two services at a station: its possibility.
+// The best row of XCHANGES that applies: its rank and its time.
 #[derive(Clone, Copy)]
-pub enum Pair {
-    Possibility(u64),
-    NoPair,
-}
-
-// The best row of XCHANGES that applies: its rank and time.
-#[derive(Clone, Copy)]
-pub enum Best {
-    BestRow(u64, u64),
-    NoBest,
-}
-
-// Where a line that is looked for begins in a text.
-#[derive(Clone, Copy)]
-pub enum Offset {
-    From(usize),
-    NotFound,
+pub struct Best {
+    pub rank: u64,
+    pub time: u64,
 }

@@ -1,16 +1,13 @@
 -- A line passes its tests exactly when it meets what the paper asks of a line of its kind.
-use Rattle.std.specs.Prelude.{ℕ, ◌≡◌, refl, ◌↔◌, List, true, drop}
+use Rattle.std.specs.Prelude.{ℕ, ◌≡◌, refl, ◌↔◌, List, true, drop, Ok, Option}
 use Rattle.std.proofs.Common.{ap, sym, ◌∙◌, eqb-true, eq-eqb}
 use Rattle.iff.specs.Files.{PerFile}
-use Rattle.iff.specs.Refusals.{first_test, verdict_at, first_fault}
+use Rattle.iff.specs.Refusals.{first_test, verdict_at, first_fault, fault_at}
 use Rattle.iff.specs.Lines.{Line}
 use Rattle.iff.specs.Tables.{Row}
 use Rattle.iff.specs.declared.RowFile.{RowFile}
 use Rattle.iff.specs.declared.GroupFile.{GroupFile}
 use Rattle.iff.specs.declared.Reason.{Reason}
-use Rattle.iff.specs.declared.Place.{Place}
-use Rattle.iff.specs.declared.Verdict.TheVariants.{Fine, Fault}
-use Rattle.iff.specs.declared.Test.TheVariants.{Passes}
 use Rattle.iff.specs.declared.InBlock.{InBlock}
 use Rattle.iff_rules.specs.Order.{LineTests, line_test}
 use Rattle.iff_laws.specs.Places.{form_in, context_in}
@@ -20,6 +17,7 @@ use Rattle.iff_laws.specs.ScanLaws.{unless_passes, verdict_fine, first_test_lem,
 use Rattle.iff_laws.specs.TruthLaws.{both, and_both, says_same}
 use Rattle.iff_laws.specs.UniqueLaws.{new_key_exactly, new_texts_exactly, new_hash_exactly, new_service_exactly, new_in_group_exactly}
 use Rattle.iff_laws.specs.ReferenceLaws.{row_refers, group_refers, block_refers}
+use Rattle.iff.specs.declared.Place.{Place}
 
 -- A LINE passes exactly when its seven facts hold
 pub record Seven (t : LineTests) : Type 0 where
@@ -31,7 +29,7 @@ pub record Seven (t : LineTests) : Type 0 where
   pub is_fresh : t.fresh ≡ true
   pub is_met : t.met ≡ true
 
-passes_seven : (t : LineTests) → line_test t ≡ Passes → Seven t
+passes_seven : (t : LineTests) → line_test t ≡ Ok tt → Seven t
 unfolding line_test
 passes_seven t e =
     let a = first_test_lem _ _ e in
@@ -51,24 +49,24 @@ passes_seven t e =
       is_met = unless_passes _ _ h.0;
     }
 
-seven_passes : (t : LineTests) → Seven t → line_test t ≡ Passes
+seven_passes : (t : LineTests) → Seven t → line_test t ≡ Ok tt
 unfolding line_test first_test
 seven_passes t s = rw (s.is_known, s.is_here, s.is_laid_out, s.is_as_first, s.is_valued, s.is_fresh, s.is_met)
 
-pub line_passes : (t : LineTests) → (line_test t ≡ Passes) ↔ Seven t
+pub line_passes : (t : LineTests) → (line_test t ≡ Ok tt) ↔ Seven t
 line_passes t = (passes_seven t, seven_passes t)
 
 -- a line's test, at its place, is the first fault of its seven tests
-pub seven_first : (p : Place) (t : LineTests) → verdict_at p (line_test t) ≡ first_fault (seven_tests p t)
+pub seven_first : (p : Option Place) (t : LineTests) → verdict_at p (line_test t) ≡ first_fault (seven_tests p t)
 unfolding line_test seven_tests
 seven_first p t = first_test_at p _
 
 -- it fails for r exactly when one of the seven does and, in the paper's order, none before it
-pub line_fails : (p : Place) (t : LineTests) (r : Reason) → (verdict_at p (line_test t) ≡ Fault r p) ↔ First (seven_tests p t) r p
+pub line_fails : (p : Option Place) (t : LineTests) (r : Reason) → (verdict_at p (line_test t) ≡ fault_at r p) ↔ First (seven_tests p t) r p
 line_fails p t r = (λ e. (first_fault_lem _ r p).0 (sym (seven_first p t) ∙ e), λ f. seven_first p t ∙ (first_fault_lem _ r p).1 f)
 
 -- and none of the seven fails exactly when the seven facts hold
-pub seven_fine : (p : Place) (t : LineTests) → (first_fault (seven_tests p t) ≡ Fine) ↔ Seven t
+pub seven_fine : (p : Option Place) (t : LineTests) → (first_fault (seven_tests p t) ≡ Ok tt) ↔ Seven t
 seven_fine p t = (
   λ e. passes_seven t (verdict_fine p (line_test t) (seven_first p t ∙ e)),
   λ s. sym (seven_first p t) ∙ ap (verdict_at p) (seven_passes t s),

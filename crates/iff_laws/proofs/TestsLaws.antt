@@ -1,12 +1,12 @@
 -- A load's verdict is the first fault of all tests in the paper's order: the key law, from which accepted and refused follow.
-use Rattle.std.specs.Prelude.{ℕ, ◌+◌, ◌≡◌, Bool, true, false, cond, take}
+use Rattle.std.specs.Prelude.{ℕ, ◌+◌, ◌≡◌, Bool, true, false, cond, take, Ok, Option}
 use Rattle.std.proofs.Math.Path.{refl, ap, sym}
 use Rattle.std.proofs.Common.{◌∙◌, add-zero}
 use mathlib.Core.List.{List, [], ◌∷◌, ◌++◌, map, append_assoc, append-nil}
 use native.Mathlib.Omega.{arith}
 use Rattle.std.proofs.Math.ListN.{length}
 use Rattle.iff.specs.Lists.{Group, front, groups, members, total, kept, same}
-use Rattle.iff.specs.Refusals.{first_test, verdict_at, first_fault, after}
+use Rattle.iff.specs.Refusals.{first_test, verdict_at, first_fault, after, Verdict, at_place}
 use Rattle.iff.specs.Files.{PerFile}
 use Rattle.iff.specs.Lines.{Line, lines, letter, is_hash, no_line}
 use Rattle.iff.specs.Tables.{Row}
@@ -17,10 +17,6 @@ use Rattle.iff.specs.declared.GroupFile.TheVariants.{Timezone, Footnote, Changes
 use Rattle.iff.specs.declared.File.{File}
 use Rattle.iff.specs.declared.File.TheVariants.{Delivery, Rows, Groups, Timetbls}
 use Rattle.iff.specs.declared.Reason.TheVariants.{Layout, Order, Legs}
-use Rattle.iff.specs.declared.Place.{Place}
-use Rattle.iff.specs.declared.Place.TheVariants.{At}
-use Rattle.iff.specs.declared.Verdict.{Verdict}
-use Rattle.iff.specs.declared.Verdict.TheVariants.{Fine}
 use Rattle.iff.specs.declared.Stand.TheVariants.{Start}
 use Rattle.iff.specs.declared.InBlock.{InBlock}
 use Rattle.iff_rules.specs.Order.{line_test, stray_tests, known_in_group, known_in_block, finished, is_stop}
@@ -32,6 +28,7 @@ use Rattle.iff_laws.specs.Tests.{test, seven_tests, asked_of_first, asked_of_row
 use Rattle.iff_laws.specs.ScanLaws.{turn, same_turn, last_turn, scan_along}
 use Rattle.iff_laws.specs.TruthLaws.{one_more, same_self}
 use Rattle.iff_laws.proofs.LineLaws.{seven_first}
+use Rattle.iff.specs.declared.Place.{Place}
 
 -- what a scan carries, at each place
 after_lines : (es ls : List Line) → after (λ earlier l. earlier ++ (l ∷ [])) es ls ≡ es ++ ls
@@ -66,7 +63,7 @@ unfolding line_test first_test first_fault
 second_first [] = refl
 second_first (l ∷ ls) = refl
 
-stray_found : (p : Place) (b : Bool) → verdict_at p (line_test (stray_tests b)) ≡ first_fault (test p b Layout ∷ test p false Order ∷ [])
+stray_found : (p : Option Place) (b : Bool) → verdict_at p (line_test (stray_tests b)) ≡ first_fault (test p b Layout ∷ test p false Order ∷ [])
 unfolding line_test first_test first_fault
 stray_found p true = refl
 stray_found p false = refl
@@ -74,7 +71,7 @@ stray_found p false = refl
 pub stray_first : (f : File) (known : ℕ → Bool) (ls : List Line) → stray_verdict f known ls ≡ first_fault (stray_line_tests f known ls)
 unfolding first_fault
 stray_first f known [] = refl
-stray_first f known (l ∷ ls) = stray_found (At f 0 2) (known (letter l))
+stray_first f known (l ∷ ls) = stray_found (at_place f 0 2) (known (letter l))
 
 -- ROWS
 module _ (c : Context) (f : RowFile) where
@@ -82,8 +79,8 @@ module _ (c : Context) (f : RowFile) where
   unfolding plain_verdict plain_test rows_tests
   rows_first ls =
       scan_along _ _ no_line [] 2 ls _
-      (λ j h. ap (λ (es : List Line). verdict_at (At (Rows f) 0 (2 + j)) (plain_test c f es (line_no ls j))) (after_lines [] (take j ls))
-      ∙ seven_first (At (Rows f) 0 (2 + j)) (asked_of_row c f (take j ls) (line_no ls j)))
+      (λ j h. ap (λ (es : List Line). verdict_at (at_place (Rows f) 0 (2 + j)) (plain_test c f es (line_no ls j))) (after_lines [] (take j ls))
+      ∙ seven_first (at_place (Rows f) 0 (2 + j)) (asked_of_row c f (take j ls) (line_no ls j)))
 
 -- GROUPS
 module _ (c : Context) (f : GroupFile) where
@@ -104,9 +101,9 @@ module _ (c : Context) (f : GroupFile) where
       turn _ _ _
       (scan_along _ _ no_line [] i (members g) _
       (λ j h.
-      ap (λ (es : List Row). verdict_at (At (Groups f) 0 (i + j)) (group_test c f seen es (line_no (members g) j)))
+      ap (λ (es : List Row). verdict_at (at_place (Groups f) 0 (i + j)) (group_test c f seen es (line_no (members g) j)))
       (after_mapped (row_of c.form (Groups f)) [] (take j (members g)))
-      ∙ seven_first (At (Groups f) 0 (i + j)) (asked_in_group c f seen (group_rows c.form f (take j (members g))) (line_no (members g) j))))
+      ∙ seven_first (at_place (Groups f) 0 (i + j)) (asked_in_group c f seen (group_rows c.form f (take j (members g))) (line_no (members g) j))))
       refl
 
   pub groups_first : (ls : List Line) → groups_verdict c f ls ≡ first_fault (groups_tests c f ls)
@@ -128,13 +125,13 @@ module _ (c : Context) where
       turn _ _ _
       (scan_along _ _ no_line block_start 1 (members g) _
       (λ j h.
-      ap (λ (st : InBlock). verdict_at (At Timetbls o (1 + j)) (block_test c seen st (line_no (members g) j))) (from_start (take j (members g)))
-      ∙ seven_first (At Timetbls o (1 + j)) (asked_in_block c seen (state_at g j) (line_no (members g) j))))
+      ap (λ (st : InBlock). verdict_at (at_place Timetbls o (1 + j)) (block_test c seen st (line_no (members g) j))) (from_start (take j (members g)))
+      ∙ seven_first (at_place Timetbls o (1 + j)) (asked_in_block c seen (state_at g j) (line_no (members g) j))))
       (ap
       (λ (st : InBlock).
       first_fault
-      (fault_unless (finished st.stand) Order (At Timetbls o (length (members g)))
-      ∷ fault_unless (legs reach_of (block_rows c.form g)) Legs (At Timetbls o 1)
+      (fault_unless (finished st.stand) Order (at_place Timetbls o (length (members g)))
+      ∷ fault_unless (legs reach_of (block_rows c.form g)) Legs (at_place Timetbls o 1)
       ∷ []))
       (from_start (members g)))
 
@@ -149,7 +146,7 @@ module _ (c : Context) where
       ∙ block_first (services_before c.form (blocks_of ls) k) (1 + k) (group_no (blocks_of ls) k))))
 
   -- FILES: no line, no fault
-  pub later_none : (f : File) → first_fault (later_tests c f []) ≡ Fine
+  pub later_none : (f : File) → first_fault (later_tests c f []) ≡ Ok tt
   unfolding rows_tests groups_tests blocks_tests along front groups first_fault
   later_none Delivery = refl
   later_none (Rows f) = refl
@@ -157,9 +154,9 @@ module _ (c : Context) where
   later_none Timetbls = refl
 
   first_line_first : (header : List ℕ) (f : File) (l : Line)
-      → verdict_at (At f 0 1) (first_line_test (same l.body header) l) ≡ first_fault (seven_tests (At f 0 1) (asked_of_first header l))
+      → verdict_at (at_place f 0 1) (first_line_test (same l.body header) l) ≡ first_fault (seven_tests (at_place f 0 1) (asked_of_first header l))
   unfolding first_line_test
-  first_line_first header f l = seven_first (At f 0 1) (asked_of_first header l)
+  first_line_first header f l = seven_first (at_place f 0 1) (asked_of_first header l)
 
   pub file_first : (header : List ℕ) (f : File) → ((ls : List Line) → later_verdict c f ls ≡ first_fault (later_tests c f ls))
       → (ls : List Line) → file_verdict c header f ls ≡ first_fault (file_tests c header f ls)
@@ -172,7 +169,7 @@ module _ (c : Context) where
   delivery_first [] = sym (later_none Delivery)
   delivery_first (l ∷ ls) =
       turn _ _ _
-      (ap (λ (b : Bool). verdict_at (At Delivery 0 1) (first_line_test b l)) (sym (same_self l.body)) ∙ first_line_first l.body Delivery l)
+      (ap (λ (b : Bool). verdict_at (at_place Delivery 0 1) (first_line_test b l)) (sym (same_self l.body)) ∙ first_line_first l.body Delivery l)
       (last_turn _ (second_first ls))
 
 pub contents_first : (F : PerFile (List ℕ)) → contents_verdict (own_context F) (rows_of_files F) F ≡ first_fault (contents_tests F)

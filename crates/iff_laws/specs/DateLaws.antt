@@ -1,12 +1,10 @@
 -- A day tells its date: two dates that are the same day are the same number DDMMYYYY. So "same service and date" may be asked of days.
-use Rattle.std.specs.Prelude.{ℕ, zero, suc, ◌+◌, ◌-◌, ◌*◌, ◌/◌, ◌%◌, ◌≤◌, ◌<◌, ◌≡◌, refl, List, Bool, true, false, cond, ◌&&◌, eqb, ltb, leb}
+use Rattle.std.specs.Prelude.{ℕ, zero, suc, ◌+◌, ◌-◌, ◌*◌, ◌/◌, ◌%◌, ◌≤◌, ◌<◌, ◌≡◌, refl, List, Bool, true, false, cond, ◌&&◌, eqb, ltb, leb, None, Option, Some}
 use Rattle.std.proofs.Common.{ap, ap₂, sym, ◌∙◌, subst, arith, eqb-true, eq-eqb, ne_eqb, ltb-false, leb-true}
 use Rattle.std.proofs.lemmas.Bool.{false≢true, eqb-false}
 use Rattle.iff.specs.Files.{PerFile}
 use Rattle.iff.specs.Tables.{Row}
 use Rattle.iff.specs.Days.{leap_year, days_before, days_in, year_days, years_before, day_is, day_of, within, in_period, since, day_in}
-use Rattle.iff.specs.declared.DayOf.{DayOf}
-use Rattle.iff.specs.declared.DayOf.TheVariants.{Day, NotADay}
 use Rattle.iff_desk.specs.Store.{first_day, last_day, is_valid, day_number, day_on, number_on}
 use Rattle.iff_laws.specs.TruthLaws.{both}
 
@@ -79,12 +77,12 @@ record IsDate (d m y n : ℕ) : Type 0 where
   number : years_before (y - 1600) + days_before (m - 1) (leap_year y) + (d - 1) ≡ n
 
 -- what is a day was not refused
-not_refused : (b : Bool) (x : DayOf) {n : ℕ} → cond b NotADay x ≡ Day n → (b ≡ false) × (x ≡ Day n)
+not_refused : (b : Bool) (x : Option ℕ) {n : ℕ} → cond b None x ≡ Some n → (b ≡ false) × (x ≡ Some n)
 not_refused true x e = let z : ◌≡◌ {A = ℕ} 0 1 = cc in absurd (omega arith)
 not_refused false x e = (refl, e)
 
 -- so it passed all that is asked of a date
-is_date : (d m y n : ℕ) → day_is d m y ≡ Day n → IsDate d m y n
+is_date : (d m y n : ℕ) → day_is d m y ≡ Some n → IsDate d m y n
 unfolding day_is
 is_date d m y n e =
     let a = not_refused (ltb y 1600) _ e in
@@ -155,20 +153,20 @@ all_written a b d m y = whole (day_month a ∙ (ap₂ (λ (i j : ℕ). i * 100 +
     whole p q = omega arith
 
 -- A DAY TELLS ITS DATE
-pub day_tells_date : (a b n : ℕ) → day_of a ≡ Day n → day_of b ≡ Day n → a ≡ b
+pub day_tells_date : (a b n : ℕ) → day_of a ≡ Some n → day_of b ≡ Some n → a ≡ b
 unfolding day_of
 day_tells_date a b n p q = let z = same_written (is_date _ _ _ n p) (is_date _ _ _ n q) in all_written a b z.0 z.1 z.2
 
 -- a date of validity is the day that it is counted as
-pub day_counted : (R : PerFile (List Row)) (date : ℕ) → is_valid R date ≡ true → day_of date ≡ Day (number_on R (day_on R date))
+pub day_counted : (R : PerFile (List Row)) (date : ℕ) → is_valid R date ≡ true → day_of date ≡ Some (number_on R (day_on R date))
 unfolding in_period day_in
 day_counted R date = go (day_of (first_day R)) (day_of date) (day_of (last_day R))
   where
-    go : (a d b : DayOf) → within a d b ≡ true → d ≡ Day (day_number a + since a d)
-    go (Day a) (Day d) (Day b) e = ap Day (omega (arith, leb-true a d (both (leb a d) (leb d b) e).0))
-    go (Day a) (Day d) NotADay e = absurd (false≢true e)
-    go (Day a) NotADay b e = absurd (false≢true e)
-    go NotADay d b e = absurd (false≢true e)
+    go : (a d b : Option ℕ) → within a d b ≡ true → d ≡ Some (day_number a + since a d)
+    go (Some a) (Some d) (Some b) e = ap Some (omega (arith, leb-true a d (both (leb a d) (leb d b) e).0))
+    go (Some a) (Some d) None e = absurd (false≢true e)
+    go (Some a) None b e = absurd (false≢true e)
+    go None d b e = absurd (false≢true e)
 
 -- "same service and date": dates of validity are the same exactly where their days, counted from the first day, are
 pub same_day_same_date : (R : PerFile (List Row)) (a b : ℕ) → is_valid R a ≡ true → is_valid R b ≡ true
@@ -179,4 +177,4 @@ same_day_same_date R a b p q = go (eqb a b) refl
     go true e = eq-eqb _ _ (ap (day_on R) (eqb-true a b e))
     go false e =
         ne_eqb _ _
-        (λ z. eqb-false a b e (day_tells_date a b _ (day_counted R a p) (day_counted R b q ∙ ap (λ (d : ℕ). Day (number_on R d)) (sym z))))
+        (λ z. eqb-false a b e (day_tells_date a b _ (day_counted R a p) (day_counted R b q ∙ ap (λ (d : ℕ). Some (number_on R d)) (sym z))))

@@ -1,10 +1,8 @@
 -- "Any two outcomes allowed for one input are proved the same": every contract is an equality with a function of the inputs. Assumes nothing.
-use Rattle.std.specs.Prelude.{ℕ, ◌≡◌, List, Bool}
+use Rattle.std.specs.Prelude.{ℕ, ◌≡◌, List, Bool, Result}
 use Rattle.std.proofs.Common.{◌∙◌, sym}
 use Rattle.iff.specs.Files.{PerFile, of}
 use Rattle.iff.specs.declared.File.{File}
-use Rattle.iff.specs.declared.Answer.{Answer}
-use Rattle.iff.specs.declared.Test.{Test}
 use Rattle.iff_rules.specs.Load.{load_answer, load_table}
 use Rattle.iff_desk.specs.Sound.{sound}
 use Rattle.iff_desk.specs.Running.{running_day}
@@ -12,10 +10,11 @@ use Rattle.iff_desk.specs.Stops.{stop_time}
 use Rattle.iff_desk.specs.Changing.{Side, rank, change}
 use Rattle.iff_desk.specs.Parts.{name, name_test, lines_now, lines_now_test}
 use Rattle.iff_desk.specs.Amend.{amend_answer, amend_timetbls}
-use Rattle.iff_desk.specs.declared.Running.{Running}
-use Rattle.iff_desk.specs.declared.StopTime.{StopTime}
 use Rattle.iff_desk.specs.declared.Riding.{Riding}
 use Rattle.iff_desk.specs.declared.Change.{Change}
+use Rattle.iff.specs.Refusals.{Answer, Test}
+use Rattle.iff.specs.declared.Reason.{Reason}
+use Rattle.iff_desk.specs.declared.StopTimes.{StopTimes}
 
 -- what two calls with one input may end in is one thing
 pub one_outcome {ℓ} : {A : Type ℓ} {x a b : A} → a ≡ x → b ≡ x → a ≡ b
@@ -44,13 +43,13 @@ module _ (T : PerFile (List ℕ)) where
   pub one_soundness : {a b : Bool} → a ≡ sound T → b ≡ sound T → a ≡ b
   one_soundness p q = one_outcome p q
 
-  pub one_running : (s leg date : ℕ) {a b : Running} → a ≡ running_day T s leg date → b ≡ running_day T s leg date → a ≡ b
+  pub one_running : (s leg date : ℕ) {a b : Result Bool Reason} → a ≡ running_day T s leg date → b ≡ running_day T s leg date → a ≡ b
   one_running s leg date p q = one_outcome p q
 
-  pub one_stop_time : (s stop date : ℕ) {a b : StopTime} → a ≡ stop_time T s stop date → b ≡ stop_time T s stop date → a ≡ b
+  pub one_stop_time : (s stop date : ℕ) {a b : Result StopTimes Reason} → a ≡ stop_time T s stop date → b ≡ stop_time T s stop date → a ≡ b
   one_stop_time s stop date p q = one_outcome p q
 
-  pub one_change : (A B : Side) {a b : Change} → a ≡ change T A B → b ≡ change T A B → a ≡ b
+  pub one_change : (A B : Side) {a b : Result Change Reason} → a ≡ change T A B → b ≡ change T A B → a ≡ b
   one_change A B p q = one_outcome p q
 
 pub one_rank : (from to : Riding) {a b : ℕ} → a ≡ rank from to → b ≡ rank from to → a ≡ b

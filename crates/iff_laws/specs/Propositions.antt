@@ -1,6 +1,6 @@
 -- WHAT THE PAPER SAYS OF KEYS, OF REFERENCES AND OF LEGS, in propositions: there is a row, no line before, at the same place.
 -- `UniqueLaws`, `ReferenceLaws` and `LegLaws` prove that the rules test just these.
-use Rattle.std.specs.Prelude.{ℕ, ◌≤◌, ◌<◌, ◌≡◌, List, [], ◌∷◌, false, length, get_or}
+use Rattle.std.specs.Prelude.{ℕ, ◌≤◌, ◌<◌, ◌≡◌, List, [], ◌∷◌, false, length, get_or, Some}
 use Rattle.iff.specs.Bytes.{hash, percent, dash, ampersand, asterisk, question}
 use Rattle.iff.specs.Lists.{has}
 use Rattle.iff.specs.Files.{PerFile}
@@ -9,7 +9,6 @@ use Rattle.iff.specs.Columns.{cols, Text, columns}
 use Rattle.iff.specs.Days.{day_of}
 use Rattle.iff.specs.Tables.{Row, tag, letterless}
 use Rattle.iff.specs.Words.{named, company_number, short_name, period_first, period_last, from_service, to_service, from_company, from_mode, to_company, to_mode, exception_footnote, station_country, station_zone, attribute_footnote, train_first, train_last, record_first, record_last}
-use Rattle.iff.specs.declared.DayOf.TheVariants.{Day}
 use Rattle.iff.specs.declared.RowFile.{RowFile}
 use Rattle.iff.specs.declared.RowFile.TheVariants.{Company, Country, Trnsmode, Stations}
 use Rattle.iff.specs.declared.GroupFile.{GroupFile}
@@ -56,8 +55,8 @@ NewHash seen r = tag r ≡ hash → New (named r) seen
 pub record NotAfter (first last : ℕ) : Type 0 where
   pub from : ℕ
   pub to : ℕ
-  pub is_first : day_of first ≡ Day from
-  pub is_last : day_of last ≡ Day to
+  pub is_first : day_of first ≡ Some from
+  pub is_last : day_of last ≡ Some to
   pub in_turn_lem : from ≤ to
 
 pub record Overlap (r e : Row) : Type 0 where
@@ -68,8 +67,8 @@ pub record Overlap (r e : Row) : Type 0 where
 pub record InPeriod (first last day : ℕ) : Type 0 where
   pub from : ℕ
   pub to : ℕ
-  pub is_first : day_of first ≡ Day from
-  pub is_last : day_of last ≡ Day to
+  pub is_first : day_of first ≡ Some from
+  pub is_last : day_of last ≡ Some to
   pub not_before : from ≤ day
   pub not_after : day ≤ to
 

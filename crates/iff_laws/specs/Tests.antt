@@ -1,9 +1,9 @@
 -- ALL TESTS OF A LOAD, one by one, in the order of "Refusals and their order", each with what it asks, its number and its place.
 -- `FirstFault` says that one of them fails and none before it does. The places are written out here, and nothing of a load's own order is cited.
-use Rattle.std.specs.Prelude.{ℕ, zero, suc, ◌+◌, ◌<◌, ◌≡◌, List, [], ◌∷◌, ◌++◌, map, Bool, true, false, ◌&&◌, cond, length, get_or, take, drop, eqb, leb, ltb}
+use Rattle.std.specs.Prelude.{ℕ, zero, suc, ◌+◌, ◌<◌, ◌≡◌, List, [], ◌∷◌, ◌++◌, map, Bool, true, false, ◌&&◌, cond, length, get_or, take, drop, eqb, leb, ltb, Ok, Option}
 use Rattle.iff.specs.Bytes.{at}
 use Rattle.iff.specs.Lists.{Group, front, members, total, same}
-use Rattle.iff.specs.Refusals.{unless, verdict_at}
+use Rattle.iff.specs.Refusals.{unless, verdict_at, Verdict, at_place, fault_at}
 use Rattle.iff.specs.Files.{PerFile, of, in_order, needed, limit}
 use Rattle.iff.specs.Lines.{Line, lines, letter, is_hash}
 use Rattle.iff.specs.Columns.{first_fields, fields_of, laid}
@@ -17,10 +17,6 @@ use Rattle.iff.specs.declared.File.{File}
 use Rattle.iff.specs.declared.File.TheVariants.{Delivery, Rows, Groups, Timetbls}
 use Rattle.iff.specs.declared.Reason.{Reason}
 use Rattle.iff.specs.declared.Reason.TheVariants.{TooLong, NoRoom, Absent, Layout, Order, FirstLine, Value, Duplicate, Reference, Legs}
-use Rattle.iff.specs.declared.Place.{Place}
-use Rattle.iff.specs.declared.Place.TheVariants.{At}
-use Rattle.iff.specs.declared.Verdict.{Verdict}
-use Rattle.iff.specs.declared.Verdict.TheVariants.{Fine, Fault}
 use Rattle.iff.specs.declared.InBlock.{InBlock}
 use Rattle.iff_rules.specs.Order.{LineTests, known_in_group, known_in_block, group_tag, may_follow, group_stand, may_end, goes, is_goes, finished}
 use Rattle.iff_rules.specs.Rows.{row_of, first_row_of, block_rows, blocks_of, rows_of_files, Context, first_of}
@@ -29,13 +25,14 @@ use Rattle.iff_rules.specs.Unique.{fresh_key, fresh_texts, fresh_in_group}
 use Rattle.iff_rules.specs.References.{names, met_by_row, met_in_group, met_in_block}
 use Rattle.iff_rules.specs.Legs.{reach_of, legs}
 use Rattle.iff_laws.specs.Places.{line_no, group_no, context_in, header_in, group_rows, keys_before, services_before, standing, state_at}
+use Rattle.iff.specs.declared.Place.{Place}
 
 -- A TEST at a place: what it asks, and the refusal where that does not hold
-abbrev pub test : Place → Bool → Reason → Verdict
+abbrev pub test : Option Place → Bool → Reason → Verdict
 test p asked r = verdict_at p (unless asked r)
 
 -- THE SEVEN TESTS OF A LINE: "first byte (4, then 7), rest of layout (4), then 6, 5, 8, 9"
-unfoldable pub seven_tests : Place → LineTests → List Verdict
+unfoldable pub seven_tests : Option Place → LineTests → List Verdict
 seven_tests p t =
     test p t.known Layout
     ∷ test p t.here Order
@@ -108,32 +105,32 @@ along (suc n) at = at 0 ++ along n (λ j. at (suc j))
 -- A FIRST LINE is line 1
 abbrev pub first_line_tests : List ℕ → File → List Line → List Verdict
 first_line_tests header f [] = []
-first_line_tests header f (l ∷ ls) = seven_tests (At f 0 1) (asked_of_first header l)
+first_line_tests header f (l ∷ ls) = seven_tests (at_place f 0 1) (asked_of_first header l)
 
 -- "a second line in DELIVERY, is 7 at once"
 abbrev pub second_line_tests : List Line → List Verdict
 second_line_tests [] = []
-second_line_tests (l ∷ ls) = test (At Delivery 0 2) false Order ∷ []
+second_line_tests (l ∷ ls) = test (at_place Delivery 0 2) false Order ∷ []
 
 -- ROWS: line j of those after the first is line 2 + j of the file
 unfoldable pub rows_tests : Context → RowFile → List Line → List Verdict
-rows_tests c f ls = along (length ls) (λ j. seven_tests (At (Rows f) 0 (2 + j)) (asked_of_row c f (take j ls) (line_no ls j)))
+rows_tests c f ls = along (length ls) (λ j. seven_tests (at_place (Rows f) 0 (2 + j)) (asked_of_row c f (take j ls) (line_no ls j)))
 
 -- A LINE BEFORE THE FIRST `#`, the first of them being line 2: 4 where its first byte is unknown, then 7, for no record is allowed there
 abbrev pub stray_line_tests : File → (ℕ → Bool) → List Line → List Verdict
 stray_line_tests f known [] = []
-stray_line_tests f known (l ∷ ls) = test (At f 0 2) (known (letter l)) Layout ∷ test (At f 0 2) false Order ∷ []
+stray_line_tests f known (l ∷ ls) = test (at_place f 0 2) (known (letter l)) Layout ∷ test (at_place f 0 2) false Order ∷ []
 
 -- A GROUP whose `#` is line i of the file: its lines; "7 at the group's last line, after that line's own tests"
 unfoldable pub group_line_tests : Context → GroupFile → List ℕ → ℕ → Group Line → List Verdict
 group_line_tests c f seen i g =
     along (length (members g))
-    (λ j. seven_tests (At (Groups f) 0 (i + j)) (asked_in_group c f seen (group_rows c.form f (take j (members g))) (line_no (members g) j)))
+    (λ j. seven_tests (at_place (Groups f) 0 (i + j)) (asked_in_group c f seen (group_rows c.form f (take j (members g))) (line_no (members g) j)))
 
 unfoldable pub group_tests : Context → GroupFile → List ℕ → ℕ → Group Line → List Verdict
 group_tests c f seen i g =
     group_line_tests c f seen i g
-    ++ (test (At (Groups f) 0 (i + length g.rest)) (may_end f (group_stand (group_rows c.form f (members g)))) Order ∷ [])
+    ++ (test (at_place (Groups f) 0 (i + length g.rest)) (may_end f (group_stand (group_rows c.form f (members g)))) Order ∷ [])
 
 -- the line of the file at which group k has its `#`
 abbrev pub hash_line : List (Group Line) → ℕ → ℕ
@@ -148,13 +145,13 @@ groups_tests c f ls =
 -- BLOCK o OF TIMETBLS: its lines, from 1; 7 at its last line; "Block test 10 comes after the block's lines", at its `#`
 unfoldable pub block_line_tests : Context → List ℕ → ℕ → Group Line → List Verdict
 block_line_tests c seen o g =
-    along (length (members g)) (λ j. seven_tests (At Timetbls o (1 + j)) (asked_in_block c seen (state_at g j) (line_no (members g) j)))
+    along (length (members g)) (λ j. seven_tests (at_place Timetbls o (1 + j)) (asked_in_block c seen (state_at g j) (line_no (members g) j)))
 
 unfoldable pub block_tests : Context → List ℕ → ℕ → Group Line → List Verdict
 block_tests c seen o g =
     block_line_tests c seen o g
-    ++ (test (At Timetbls o (length (members g))) (finished (standing (members g)).stand) Order
-    ∷ test (At Timetbls o 1) (legs reach_of (block_rows c.form g)) Legs
+    ++ (test (at_place Timetbls o (length (members g))) (finished (standing (members g)).stand) Order
+    ∷ test (at_place Timetbls o 1) (legs reach_of (block_rows c.form g)) Legs
     ∷ [])
 
 -- blocks are counted from 1; what stands before the first is in block 0, after the file's first line
@@ -190,32 +187,32 @@ unfoldable pub contents_tests : PerFile (List ℕ) → List Verdict
 contents_tests F =
     tests_of F Delivery
     ++ (tests_of F (Rows Company)
-    ++ (test (At Delivery 0 1) (names (own_context F) (Rows Company) (own_company (first_of (rows_of_files F).delivery))) Reference
+    ++ (test (at_place Delivery 0 1) (names (own_context F) (Rows Company) (own_company (first_of (rows_of_files F).delivery))) Reference
     ∷ in_turn (tests_of F) (drop 2 in_order)))
 
 -- "A load tests 1, then 3, then 2, each over the files in order", at no line
 unfoldable pub length_tests : PerFile (List ℕ) → List Verdict
-length_tests F = map (λ f. test (At f 0 0) (leb (length (of F f)) limit) TooLong) in_order
+length_tests F = map (λ f. test (at_place f 0 0) (leb (length (of F f)) limit) TooLong) in_order
 
 abbrev pub there : PerFile (List ℕ) → File → Bool
 there F f = ltb 0 (length (of F f))
 
 unfoldable pub absence_tests : PerFile (List ℕ) → List Verdict
-absence_tests F = map (λ f. test (At f 0 0) (cond (needed (there F) f) (there F f) true) Absent) in_order
+absence_tests F = map (λ f. test (at_place f 0 0) (cond (needed (there F) f) (there F f) true) Absent) in_order
 
 unfoldable pub room_tests : PerFile (List ℕ) → PerFile ℕ → List Verdict
-room_tests F R = map (λ f. test (At f 0 0) (leb (length (lines (of F f))) (room f (of R f))) NoRoom) in_order
+room_tests F R = map (λ f. test (at_place f 0 0) (leb (length (lines (of F f))) (room f (of R f))) NoRoom) in_order
 
 unfoldable pub tests : PerFile (List ℕ) → PerFile ℕ → List Verdict
 tests F R = length_tests F ++ (absence_tests F ++ (room_tests F R ++ contents_tests F))
 
 -- some test of a list fails at p for r, and none before it fails
-pub record First (vs : List Verdict) (r : Reason) (p : Place) : Type 0 where
+pub record First (vs : List Verdict) (r : Reason) (p : Option Place) : Type 0 where
   pub nth : ℕ
   pub inside : nth < length vs
-  pub fails : get_or vs nth Fine ≡ Fault r p
-  pub none_before : (i : ℕ) → i < nth → get_or vs i Fine ≡ Fine
+  pub fails : get_or vs nth (Ok tt) ≡ fault_at r p
+  pub none_before : (i : ℕ) → i < nth → get_or vs i (Ok tt) ≡ Ok tt
 
 -- THE FIRST FAULT OF A DELIVERY
-abbrev pub FirstFault : PerFile (List ℕ) → PerFile ℕ → Reason → Place → Type 0
+abbrev pub FirstFault : PerFile (List ℕ) → PerFile ℕ → Reason → Option Place → Type 0
 FirstFault F R r p = First (tests F R) r p

@@ -1,5 +1,5 @@
 -- The rules find a duplicate exactly when a line before, a group before or a row of the group has the same.
-use Rattle.std.specs.Prelude.{ℕ, ◌≤◌, ◌<◌, ◌≡◌, ◌↔◌, List, [], ◌∷◌, map, Bool, ◌&&◌, eqb}
+use Rattle.std.specs.Prelude.{ℕ, ◌≤◌, ◌<◌, ◌≡◌, ◌↔◌, List, [], ◌∷◌, map, Bool, ◌&&◌, eqb, None, Option, Some}
 use Rattle.std.proofs.Math.Path.{refl}
 use Rattle.std.proofs.Common.{ap, sym, ◌∙◌, arith}
 use Rattle.std.proofs.Math.Bool.{true, false, not}
@@ -13,8 +13,6 @@ use Rattle.iff.specs.Columns.{cols, Text, columns}
 use Rattle.iff.specs.Days.{day_of, in_turn, period}
 use Rattle.iff.specs.Tables.{Row, tag, word, letterless, padded, row_key_word, keys_of}
 use Rattle.iff.specs.Words.{named, period_first, period_last, from_service, to_service, from_company, from_mode, to_company, to_mode, exception_footnote}
-use Rattle.iff.specs.declared.DayOf.{DayOf}
-use Rattle.iff.specs.declared.DayOf.TheVariants.{Day, NotADay}
 use Rattle.iff.specs.declared.RowFile.{RowFile}
 use Rattle.iff.specs.declared.RowFile.TheVariants.{Company, Country, Trnsmode, Stations}
 use Rattle.iff.specs.declared.GroupFile.{GroupFile}
@@ -106,13 +104,13 @@ new_service_exactly seen r = says_where (says_eq (tag r) hash) (none_with 0 _ (s
 not_after : (first last : ℕ) → Says (in_turn (day_of first) (day_of last)) (NotAfter first last)
 not_after first last = (go (day_of first) (day_of last) refl refl, λ m. rw (m.is_first, m.is_last) (le-leb _ _ m.in_turn_lem))
   where
-    go : (x y : DayOf) → day_of first ≡ x → day_of last ≡ y → in_turn x y ≡ true → NotAfter first last
-    go (Day a) (Day b) p q e = record { from = a; to = b; is_first = p; is_last = q; in_turn_lem = leb-true _ _ e }
-    go (Day a) NotADay p q e = absurd (false≢true e)
-    go NotADay y p q e = absurd (false≢true e)
+    go : (x y : Option ℕ) → day_of first ≡ x → day_of last ≡ y → in_turn x y ≡ true → NotAfter first last
+    go (Some a) (Some b) p q e = record { from = a; to = b; is_first = p; is_last = q; in_turn_lem = leb-true _ _ e }
+    go (Some a) None p q e = absurd (false≢true e)
+    go None y p q e = absurd (false≢true e)
 
 -- periods that are in turn overlap exactly where they share a day
-in_days : {first last x y : ℕ} → NotAfter first last → day_of first ≡ Day x → day_of last ≡ Day y → x ≤ y
+in_days : {first last x y : ℕ} → NotAfter first last → day_of first ≡ Some x → day_of last ≡ Some y → x ≤ y
 in_days {x = x} {y = y} n s t =
     let h : n.from ≡ x = cc in
     let k : n.to ≡ y = cc in

@@ -1,8 +1,8 @@
 -- A LOAD: the answer, and the eleven tables, as functions of the eleven files and of the eleven tables' lengths.
-use Rattle.std.specs.Prelude.{ℕ, ◌+◌, List, [], ◌∷◌, ◌++◌, map, Bool, true, ◌&&◌, cond, length, get_or, drop, replicate, eqb, leb, ltb}
+use Rattle.std.specs.Prelude.{ℕ, ◌+◌, List, [], ◌∷◌, ◌++◌, map, Bool, true, ◌&&◌, cond, length, get_or, drop, replicate, eqb, leb, ltb, Ok, Option}
 use Rattle.iff.specs.Bytes.{at}
 use Rattle.iff.specs.Lists.{Group, front, members, same}
-use Rattle.iff.specs.Refusals.{unless, verdict_at, first_fault, fine, scan, after, answer}
+use Rattle.iff.specs.Refusals.{unless, verdict_at, first_fault, fine, scan, after, answer, Answer, Test, Verdict, at_place}
 use Rattle.iff.specs.Files.{PerFile, of, in_order, needed, limit}
 use Rattle.iff.specs.Lines.{Line, lines, letter, is_hash, no_line}
 use Rattle.iff.specs.Columns.{first_fields, fields_of, laid}
@@ -17,12 +17,6 @@ use Rattle.iff.specs.declared.File.{File}
 use Rattle.iff.specs.declared.File.TheVariants.{Delivery, Rows, Groups, Timetbls}
 use Rattle.iff.specs.declared.Reason.{Reason}
 use Rattle.iff.specs.declared.Reason.TheVariants.{TooLong, NoRoom, Absent, Order, Reference, Legs}
-use Rattle.iff.specs.declared.Place.{Place}
-use Rattle.iff.specs.declared.Place.TheVariants.{At}
-use Rattle.iff.specs.declared.Test.{Test}
-use Rattle.iff.specs.declared.Verdict.{Verdict}
-use Rattle.iff.specs.declared.Verdict.TheVariants.{Fine}
-use Rattle.iff.specs.declared.Answer.{Answer}
 use Rattle.iff.specs.declared.Stand.TheVariants.{Start}
 use Rattle.iff.specs.declared.InBlock.{InBlock}
 use Rattle.iff.specs.declared.Form.{Form}
@@ -32,8 +26,9 @@ use Rattle.iff_rules.specs.Meaning.{first_meaning, row_meaning, group_meaning, b
 use Rattle.iff_rules.specs.Unique.{fresh_key, fresh_texts, fresh_in_group}
 use Rattle.iff_rules.specs.References.{names, met_by_row, met_in_group, met_in_block}
 use Rattle.iff_rules.specs.Legs.{one, reach_of, legs}
+use Rattle.iff.specs.declared.Place.{Place}
 
-abbrev pub fault_unless : Bool → Reason → Place → Verdict
+abbrev pub fault_unless : Bool → Reason → Option Place → Verdict
 fault_unless b r p = verdict_at p (unless b r)
 
 -- A FIRST LINE: "not starting `@` .. is 7 at once"; 6 where it differs from DELIVERY's
@@ -52,12 +47,12 @@ first_line_test as_delivery l =
 
 -- DELIVERY: its first line; "a second line in DELIVERY, is 7 at once"
 abbrev pub second : List Line → Verdict
-second [] = Fine
-second (l ∷ ls) = verdict_at (At Delivery 0 2) (line_test (stray_tests true))
+second [] = Ok tt
+second (l ∷ ls) = verdict_at (at_place Delivery 0 2) (line_test (stray_tests true))
 
 unfoldable pub delivery_verdict : List Line → Verdict
-delivery_verdict [] = Fine
-delivery_verdict (l ∷ ls) = first_fault (verdict_at (At Delivery 0 1) (first_line_test true l) ∷ second ls ∷ [])
+delivery_verdict [] = Ok tt
+delivery_verdict (l ∷ ls) = first_fault (verdict_at (at_place Delivery 0 1) (first_line_test true l) ∷ second ls ∷ [])
 
 -- A ROW of a file without record letters, after some lines of it
 unfoldable pub plain_test : Context → RowFile → List Line → Line → Test
@@ -78,7 +73,7 @@ plain_test c f earlier l =
 -- the rows of such a file, from line i on
 unfoldable pub plain_verdict : Context → RowFile → List Line → Verdict
 plain_verdict c f ls =
-    scan (λ earlier i l. verdict_at (At (Rows f) 0 i) (plain_test c f earlier l)) (λ earlier l. earlier ++ (l ∷ [])) [] 2 ls
+    scan (λ earlier i l. verdict_at (at_place (Rows f) 0 i) (plain_test c f earlier l)) (λ earlier l. earlier ++ (l ∷ [])) [] 2 ls
 
 -- A LINE OF A GROUP, after some rows of the group, and after groups with some keys
 unfoldable pub group_test : Context → GroupFile → List ℕ → List Row → Line → Test
@@ -104,9 +99,9 @@ group_rows c f ls = map (row_of c.form (Groups f)) ls
 unfoldable pub group_verdict : Context → GroupFile → List ℕ → ℕ → Group Line → Verdict
 group_verdict c f seen i g =
     first_fault
-    (scan (λ earlier k l. verdict_at (At (Groups f) 0 k) (group_test c f seen earlier l))
+    (scan (λ earlier k l. verdict_at (at_place (Groups f) 0 k) (group_test c f seen earlier l))
     (λ earlier l. earlier ++ (row_of c.form (Groups f) l ∷ [])) [] i (members g)
-    ∷ fault_unless (may_end f (group_stand (group_rows c f (members g)))) Order (At (Groups f) 0 (i + length g.rest))
+    ∷ fault_unless (may_end f (group_stand (group_rows c f (members g)))) Order (at_place (Groups f) 0 (i + length g.rest))
     ∷ [])
 
 -- between groups: the keys seen, and the line of the next `#`
@@ -120,8 +115,8 @@ after_group c f b g =
 
 -- lines before the first `#` of a file that knows some first bytes
 abbrev pub stray_verdict : File → (ℕ → Bool) → List Line → Verdict
-stray_verdict f known [] = Fine
-stray_verdict f known (l ∷ ls) = verdict_at (At f 0 2) (line_test (stray_tests (known (letter l))))
+stray_verdict f known [] = Ok tt
+stray_verdict f known (l ∷ ls) = verdict_at (at_place f 0 2) (line_test (stray_tests (known (letter l))))
 
 unfoldable pub groups_verdict : Context → GroupFile → List Line → Verdict
 groups_verdict c f ls =
@@ -159,9 +154,9 @@ block_next st l = block_moves st (letter l)
 unfoldable pub block_verdict : Context → List ℕ → ℕ → Group Line → Verdict
 block_verdict c seen o g =
     first_fault
-    (scan (λ st j l. verdict_at (At Timetbls o j) (block_test c seen st l)) block_next block_start 1 (members g)
-    ∷ fault_unless (finished (after block_next block_start (members g)).stand) Order (At Timetbls o (length (members g)))
-    ∷ fault_unless (legs reach_of (block_rows c.form g)) Legs (At Timetbls o 1)
+    (scan (λ st j l. verdict_at (at_place Timetbls o j) (block_test c seen st l)) block_next block_start 1 (members g)
+    ∷ fault_unless (finished (after block_next block_start (members g)).stand) Order (at_place Timetbls o (length (members g)))
+    ∷ fault_unless (legs reach_of (block_rows c.form g)) Legs (at_place Timetbls o 1)
     ∷ [])
 
 -- the service that a block names, in its `#`
@@ -177,23 +172,23 @@ timetbls_verdict c ls =
 
 -- A FILE AFTER ITS FIRST LINE
 abbrev pub later_verdict : Context → File → List Line → Verdict
-later_verdict c Delivery ls = Fine
+later_verdict c Delivery ls = Ok tt
 later_verdict c (Rows f) ls = plain_verdict c f ls
 later_verdict c (Groups f) ls = groups_verdict c f ls
 later_verdict c Timetbls ls = timetbls_verdict c ls
 
 -- a file other than DELIVERY, whose first line is `header`; an absent file has no lines and no fault
 unfoldable pub file_verdict : Context → List ℕ → File → List Line → Verdict
-file_verdict c header f [] = Fine
-file_verdict c header f (l ∷ ls) = first_fault (verdict_at (At f 0 1) (first_line_test (same l.body header) l) ∷ later_verdict c f ls ∷ [])
+file_verdict c header f [] = Ok tt
+file_verdict c header f (l ∷ ls) = first_fault (verdict_at (at_place f 0 1) (first_line_test (same l.body header) l) ∷ later_verdict c f ls ∷ [])
 
 -- "DELIVERY's company is looked up after COMPANY's last line and reported at DELIVERY."
 abbrev pub company_verdict : Context → List Row → Verdict
-company_verdict c rs = fault_unless (names c (Rows Company) (own_company (first_of rs))) Reference (At Delivery 0 1)
+company_verdict c rs = fault_unless (names c (Rows Company) (own_company (first_of rs))) Reference (at_place Delivery 0 1)
 
 -- "A load tests 1, then 3, then 2, each over the files in order." n is a file's length, r its table's
 abbrev pub length_verdict : File → ℕ → Verdict
-length_verdict f n = fault_unless (leb n limit) TooLong (At f 0 0)
+length_verdict f n = fault_unless (leb n limit) TooLong (at_place f 0 0)
 
 abbrev pub present : List ℕ → Bool
 present s = ltb 0 (length s)
@@ -203,10 +198,10 @@ abbrev pub present_in : PerFile (List ℕ) → File → Bool
 present_in F f = present (of F f)
 
 abbrev pub absence_verdict : (File → Bool) → File → Verdict
-absence_verdict there f = fault_unless (cond (needed there f) (there f) true) Absent (At f 0 0)
+absence_verdict there f = fault_unless (cond (needed there f) (there f) true) Absent (at_place f 0 0)
 
 abbrev pub room_verdict : File → ℕ → ℕ → Verdict
-room_verdict f ls r = fault_unless (leb ls (room f r)) NoRoom (At f 0 0)
+room_verdict f ls r = fault_unless (leb ls (room f r)) NoRoom (at_place f 0 0)
 
 abbrev pub over_files : (File → Verdict) → Verdict
 over_files v = first_fault (map v in_order)

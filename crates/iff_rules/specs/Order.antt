@@ -1,8 +1,8 @@
 -- "Order", and the order of the tests of one line.
-use Rattle.std.specs.Prelude.{ℕ, List, [], ◌∷◌, Bool, true, false, ◌||◌, cond, eqb}
+use Rattle.std.specs.Prelude.{ℕ, List, [], ◌∷◌, Bool, true, false, ◌||◌, cond, eqb, None, Option, Some}
 use Rattle.iff.specs.Bytes.{hash, percent, ampersand, asterisk, plus, dash, dot, semicolon, less, greater, question, at}
 use Rattle.iff.specs.Lists.{has}
-use Rattle.iff.specs.Refusals.{first_test, unless, after}
+use Rattle.iff.specs.Refusals.{first_test, unless, after, Test}
 use Rattle.iff.specs.Columns.{on}
 use Rattle.iff.specs.Tables.{Row, letterless}
 use Rattle.iff.specs.declared.GroupFile.{GroupFile}
@@ -10,13 +10,10 @@ use Rattle.iff.specs.declared.GroupFile.TheVariants.{Timezone, Footnote, Changes
 use Rattle.iff.specs.declared.File.{File}
 use Rattle.iff.specs.declared.File.TheVariants.{Delivery, Rows, Groups, Timetbls}
 use Rattle.iff.specs.declared.Reason.TheVariants.{Layout, Value, FirstLine, Order, Duplicate, Reference}
-use Rattle.iff.specs.declared.Test.{Test}
 use Rattle.iff.specs.declared.GroupStand.{GroupStand}
 use Rattle.iff.specs.declared.GroupStand.TheVariants.{Opening, Opened, Going}
 use Rattle.iff.specs.declared.Stand.{Stand}
 use Rattle.iff.specs.declared.Stand.TheVariants.{Start, Hash, Percent, Dash, Ampersand, Asterisk, Stop, Between, Last, LastPlatform}
-use Rattle.iff.specs.declared.Next.{Next}
-use Rattle.iff.specs.declared.Next.TheVariants.{Goes, NotHere}
 
 -- THE TESTS OF ONE LINE: "first byte (4, then 7), rest of layout (4), then 6, 5, 8, 9"
 pub record LineTests : Type 0 where
@@ -125,29 +122,29 @@ may_end f Going = true
 
 -- "TIMETBLS block: `#`; one or more `%`; one or more `-`; one or more `&`; any `*`; `>`; any of `.` `+` `;`; `<`.
 -- A stop record `>` `.` `+` `<` may be followed by one platform record, after which the stops go on."
-abbrev pub to : ℕ → ℕ → Stand → Next → Next
-to x k s n = cond (eqb x k) (Goes s) n
+abbrev pub to : ℕ → ℕ → Stand → Option Stand → Option Stand
+to x k s n = cond (eqb x k) (Some s) n
 
-unfoldable pub goes : Stand → ℕ → Next
-goes Start x = to x hash Hash NotHere
-goes Hash x = to x percent Percent NotHere
-goes Percent x = to x percent Percent (to x dash Dash NotHere)
-goes Dash x = to x dash Dash (to x ampersand Ampersand NotHere)
-goes Ampersand x = to x ampersand Ampersand (to x asterisk Asterisk (to x greater Stop NotHere))
-goes Asterisk x = to x asterisk Asterisk (to x greater Stop NotHere)
-goes Stop x = to x dot Stop (to x plus Stop (to x semicolon Between (to x question Between (to x less Last NotHere))))
-goes Between x = to x dot Stop (to x plus Stop (to x semicolon Between (to x less Last NotHere)))
-goes Last x = to x question LastPlatform NotHere
-goes LastPlatform x = NotHere
+unfoldable pub goes : Stand → ℕ → Option Stand
+goes Start x = to x hash Hash None
+goes Hash x = to x percent Percent None
+goes Percent x = to x percent Percent (to x dash Dash None)
+goes Dash x = to x dash Dash (to x ampersand Ampersand None)
+goes Ampersand x = to x ampersand Ampersand (to x asterisk Asterisk (to x greater Stop None))
+goes Asterisk x = to x asterisk Asterisk (to x greater Stop None)
+goes Stop x = to x dot Stop (to x plus Stop (to x semicolon Between (to x question Between (to x less Last None))))
+goes Between x = to x dot Stop (to x plus Stop (to x semicolon Between (to x less Last None)))
+goes Last x = to x question LastPlatform None
+goes LastPlatform x = None
 
-abbrev pub is_goes : Next → Bool
-is_goes (Goes s) = true
-is_goes NotHere = false
+abbrev pub is_goes : Option Stand → Bool
+is_goes (Some s) = true
+is_goes None = false
 
 -- where a line that is let through leads; one that is not leads nowhere else
-abbrev pub stand_after : Stand → Next → Stand
-stand_after p (Goes s) = s
-stand_after p NotHere = p
+abbrev pub stand_after : Stand → Option Stand → Stand
+stand_after p (Some s) = s
+stand_after p None = p
 
 -- a block may end here
 abbrev pub finished : Stand → Bool

@@ -1,4 +1,5 @@
 -- The keys of a table told row by row. Assumes nothing.
+use Rattle.std.specs.Prelude.{None, Option, Some}
 use Prim.Native.Nat.{ℕ, zero, suc, ◌+◌, ◌-◌, ◌*◌, ◌≤◌, ◌<◌}
 use mathlib.Core.Path.{◌≡◌, refl, ap, sym, ◌∙◌}
 use mathlib.Core.List.{List, [], ◌∷◌, ◌++◌}
@@ -26,8 +27,6 @@ use Rattle.index.specs.Told.{KeysTold}
 use Rattle.slots.specs.Slots.{names_at, key_at, keys_between}
 use Rattle.slot_puts.specs.Puts.{AtRow, KeyPut}
 use Rattle.index.specs.Keying.{all_new, Told, RowPut, Indexed, KeysPut}
-use Rattle.index.specs.declared.Next.{Next}
-use Rattle.index.specs.declared.Next.TheVariants.{Came, Goes}
 use Rattle.slots.proofs.SlotLaws.{starts, one_more, fewer_rows, kept_same, kept_then}
 
 -- ROW BY ROW
@@ -150,7 +149,7 @@ pub key_here : (f : File) (w col : ℕ) → w ≡ row_width f → col ≡ key_wo
 key_here f w col v m t i x e = rw (v, m) at e
 
 module _ (f : File) (t : List ℕ) (run : KeyRun) (i : ℕ) (ps : List ℕ) where
-  pub row_none : AtRow f t run i ps → names_at f t i ≡ false → RowPut f t run i ps ps (Goes run)
+  pub row_none : AtRow f t run i ps → names_at f t i ≡ false → RowPut f t run i ps ps (Some run)
   row_none a e =
       record {
         wide = refl;
@@ -162,7 +161,7 @@ module _ (f : File) (t : List ℕ) (run : KeyRun) (i : ℕ) (ps : List ℕ) wher
       }
 
   module _ (key : ℕ) (qs : List ℕ) (b : Bool) (p : KeyPut f t i key ps qs b) (e : names_at f t i ≡ true) (is : key ≡ key_at f t i) where
-    pub row_new : b ≡ true → (next : KeyRun) → next ≡ step_run run key → RowPut f t run i ps qs (Goes next)
+    pub row_new : b ≡ true → (next : KeyRun) → next ≡ step_run run key → RowPut f t run i ps qs (Some next)
     row_new y next n =
         record {
           wide = p.wide;
@@ -178,7 +177,7 @@ module _ (f : File) (t : List ℕ) (run : KeyRun) (i : ℕ) (ps : List ℕ) wher
           kept = p.kept;
         }
 
-    pub row_came : b ≡ false → RowPut f t run i ps qs Came
+    pub row_came : b ≡ false → RowPut f t run i ps qs None
     row_came y =
         record {
           wide = p.wide;
@@ -213,8 +212,8 @@ module _ (f : File) (used : ℕ) (t ps : List ℕ) where
           index = rw x.index.wide x.index;
         }
 
-    module _ (h : i < used) (ms : List ℕ) (r : Next) (p : RowPut f t run i qs ms r) where
-      pub one_indexed : (next : KeyRun) → r ≡ Goes next → Indexed f used t ps next (i + 1) ms
+    module _ (h : i < used) (ms : List ℕ) (r : Option KeyRun) (p : RowPut f t run i qs ms r) where
+      pub one_indexed : (next : KeyRun) → r ≡ Some next → Indexed f used t ps next (i + 1) ms
       one_indexed next q =
           rw add-one
           (record {
@@ -225,7 +224,7 @@ module _ (f : File) (used : ℕ) (t ps : List ℕ) where
             kept = kept_then x.kept p.kept;
           })
 
-      pub again_told : r ≡ Came → KeysPut f used t ps ms (record { distinct = false; rise = false })
+      pub again_told : r ≡ None → KeysPut f used t ps ms (record { distinct = false; rise = false })
       again_told q = (
         told_again f t used false (p.came q used h x.told),
         p.wide ∙ x.index.wide,

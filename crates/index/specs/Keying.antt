@@ -1,5 +1,5 @@
 -- The rows of a table gone through: what is left of them decides what is told of them all.
-use Rattle.std.specs.Prelude.{ℕ, suc, ◌<◌, ◌≡◌, List, Bool, true, false, not, length}
+use Rattle.std.specs.Prelude.{ℕ, suc, ◌<◌, ◌≡◌, List, Bool, true, false, not, length, None, Option, Some}
 use Rattle.iff.specs.declared.File.{File}
 use Rattle.iff.specs.Lists.{has}
 use Rattle.iff.specs.Refusals.{after}
@@ -9,8 +9,6 @@ use Rattle.keys.specs.Lookup.{keys_among}
 use Rattle.fresh_keys.specs.Runs.{step_run, run_of}
 use Rattle.index.specs.Told.{KeysTold}
 use Rattle.index.specs.declared.KeysAre.{KeysAre}
-use Rattle.index.specs.declared.Next.{Next}
-use Rattle.index.specs.declared.Next.TheVariants.{Came, Goes}
 use Rattle.slots.specs.Slots.{keys_between, Index, Kept}
 
 -- some keys are new after others
@@ -23,12 +21,12 @@ pub record Told (f : File) (used : ℕ) (t : List ℕ) (run : KeyRun) (i : ℕ) 
   pub rises : run_of (keys_among f used t) ≡ after step_run run (keys_between f t i used)
 
 -- one row more
-pub record RowPut (f : File) (t : List ℕ) (run : KeyRun) (i : ℕ) (ps qs : List ℕ) (r : Next) : Type 0 where
+pub record RowPut (f : File) (t : List ℕ) (run : KeyRun) (i : ℕ) (ps qs : List ℕ) (r : Option KeyRun) : Type 0 where
   pub wide : length qs ≡ length ps
-  pub came : r ≡ Came → (used : ℕ) → i < used → Told f used t run i → distinct (keys_among f used t) ≡ false
-  pub told : (next : KeyRun) → r ≡ Goes next → (used : ℕ) → i < used → Told f used t run i → Told f used t next (suc i)
-  pub runs : (next : KeyRun) → r ≡ Goes next → run ≡ run_of (keys_between f t 0 i) → next ≡ run_of (keys_between f t 0 (suc i))
-  pub index : (next : KeyRun) → r ≡ Goes next → Index f t (suc i) (length ps) qs
+  pub came : r ≡ None → (used : ℕ) → i < used → Told f used t run i → distinct (keys_among f used t) ≡ false
+  pub told : (next : KeyRun) → r ≡ Some next → (used : ℕ) → i < used → Told f used t run i → Told f used t next (suc i)
+  pub runs : (next : KeyRun) → r ≡ Some next → run ≡ run_of (keys_between f t 0 i) → next ≡ run_of (keys_between f t 0 (suc i))
+  pub index : (next : KeyRun) → r ≡ Some next → Index f t (suc i) (length ps) qs
   pub kept : Kept ps qs
 
 -- before row i, in slots that were so many at first

@@ -14,21 +14,14 @@ pub struct KeysAre {
     pub rise: bool,
 }
 
-// What a row leaves: its key came before, or the run of the keys so far.
-#[derive(Clone, Copy)]
-pub enum Next {
-    Came,
-    Goes(fresh_keys::KeyRun),
-}
-
-// One row: its key is tested and put into the index, where it names something.
+// One row: its key is tested and put into the index, where it names something. The run of the keys so far; or none, where its key came before.
 pub fn index_row(
     file: iff::File,
     t: &[u64],
     i: usize,
     run: fresh_keys::KeyRun,
     places: &mut [u32],
-) -> Next
+) -> Option<fresh_keys::KeyRun>
     requires { AtRow file t.now run i places.old }
     ensures { RowPut file t.now run i places.old places.new result }
 {
@@ -36,13 +29,13 @@ pub fn index_row(
     let tag = keys::key_tag(file);
     let col = keys::key_word(file);
     if tables::word_at(t, w, i, iff::words::TAG) != tag {
-        return Next::Goes(run);
+        return Some(run);
     }
     let key = tables::word_at(t, w, i, col);
     if slot_puts::put_key(file, t, i, run, key, places) {
-        return Next::Goes(fresh_keys::next_run(run, key));
+        return Some(fresh_keys::next_run(run, key));
     }
-    Next::Came
+    None
 }
 
 // Tells whether the keys of a table are distinct, and whether they rise, and leaves each key's row in its slots, for later lookups. What stood in the
@@ -52,16 +45,14 @@ pub fn index_keys(file: iff::File, t: &[u64], used: usize, places: &mut [u32]) -
     ensures { KeysPut file used t.now places.old places.new result }
 {
     let mut run = fresh_keys::no_keys();
-    let mut i = 1;
-    while i < used {
-        let Next::Goes(next) = index_row(file, t, i, run, places) else {
+    for i in 1..used {
+        let Some(next) = index_row(file, t, i, run, places) else {
             return KeysAre {
                 distinct: false,
                 rise: false,
             };
         };
         run = next;
-        i += 1;
     }
     KeysAre {
         distinct: true,

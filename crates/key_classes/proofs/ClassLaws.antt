@@ -1,4 +1,5 @@
 -- One class of keys asked by a set: a key that is new is put there, and one that is found there came before. Assumes nothing.
+use Rattle.std.specs.Prelude.{None, Some}
 use Prim.Native.Nat.{ℕ, suc, ◌+◌, ◌≤◌, ◌<◌}
 use mathlib.Core.Path.{◌≡◌, refl, ap, ◌∙◌}
 use mathlib.Core.List.{List}
@@ -12,7 +13,6 @@ use Rattle.key_sets.specs.Sets.{AllFree, FirstFree, Held, KeyPut, Stands}
 use Rattle.key_classes.specs.Classes.{class_of, CameBy, ClearTo, KeyTried, ClassLeft, ClassAsked, SetOf}
 use Rattle.key_sets.specs.declared.Tried.{Tried}
 use Rattle.key_sets.specs.declared.Tried.TheVariants.{Goes}
-use Rattle.key_classes.specs.declared.Asked.TheVariants.{Upto, Nothing}
 use Rattle.key_sets.proofs.SetLaws.{still_stands, now_stands, holds_still, holds_new}
 
 pub class_below : (classes key : ℕ) → 0 < classes → class_of classes key < classes
@@ -121,16 +121,16 @@ module _ (classes class : ℕ) (ks : List ℕ) where
 
 -- ONE CLASS
 module _ (classes class : ℕ) (ks : List ℕ) (upto : ℕ) where
-  pub asked : (n : ℕ) → ClassLeft classes class ks upto n → ClassAsked classes class ks upto (Upto n)
+  pub asked : (n : ℕ) → ClassLeft classes class ks upto n → ClassAsked classes class ks upto (Some n)
   asked n x = record { left = λ m q. let z : n ≡ m = cc in rw (← z) x }
 
-  pub not_asked : ClassAsked classes class ks upto Nothing
+  pub not_asked : ClassAsked classes class ks upto None
   not_asked = record { left = λ m q. absurd (let z : ◌≡◌ {A = ℕ} 0 1 = cc in omega arith) }
 
   -- all that were left are asked
-  pub asked_all : (n : ℕ) → ClearTo classes class ks n → ((j : ℕ) → j < upto → j < length ks → j < n) → ClassAsked classes class ks upto (Upto upto)
+  pub asked_all : (n : ℕ) → ClearTo classes class ks n → ((j : ℕ) → j < upto → j < length ks → j < n) → ClassAsked classes class ks upto (Some upto)
   asked_all n c all = asked upto (record { most = omega arith; clear = λ j h l. c j (all j h l) l; again = λ h. absurd (omega arith) })
 
   -- or those before one that came
-  pub asked_again : (n : ℕ) → n < upto → n < length ks → ClearTo classes class ks n → CameBy ks n (get_or ks n 0) → ClassAsked classes class ks upto (Upto n)
+  pub asked_again : (n : ℕ) → n < upto → n < length ks → ClearTo classes class ks n → CameBy ks n (get_or ks n 0) → ClassAsked classes class ks upto (Some n)
   asked_again n h l c a = asked n (record { most = omega arith; clear = c; again = λ g. record { inside = l; came = a } })

@@ -1,4 +1,5 @@
 -- The services of a table gone through block by block. Assumes nothing.
+use Rattle.std.specs.Prelude.{Some}
 use Prim.Native.Nat.{ℕ, zero, suc, ◌+◌, ◌-◌, ◌*◌, ◌≤◌, ◌<◌}
 use mathlib.Core.Path.{◌≡◌, refl, ap, sym, subst, ◌∙◌}
 use mathlib.Core.List.{List, [], ◌∷◌, map}
@@ -19,7 +20,6 @@ use Rattle.key_sets.specs.Sets.{AllFree, Held}
 use Rattle.key_classes.specs.Classes.{KeyTried, ClassAsked, services_from, Walking}
 use Rattle.key_sets.specs.declared.Tried.{Tried}
 use Rattle.key_sets.specs.declared.Tried.TheVariants.{Goes}
-use Rattle.key_classes.specs.declared.Asked.TheVariants.{Upto}
 use Rattle.key_classes.proofs.ClassLaws.{none_held, none_asked, held_came, key_held, key_clear, asked_all, asked_again}
 
 -- the services are those that open the blocks
@@ -98,13 +98,13 @@ module _ (classes class used upto : ℕ) (t : List ℕ) (room : used * row_width
 
   module _ (slots n i : ℕ) (ps : List ℕ) (x : Walking classes class used upto t slots n i ps) where
     -- after the last row
-    pub ends : used ≤ i → ClassAsked classes class (keys_among Timetbls used t) upto (Upto upto)
+    pub ends : used ≤ i → ClassAsked classes class (keys_among Timetbls used t) upto (Some upto)
     ends h =
         let g = all_gone (keys_among Timetbls used t) n (x.left ∙ none_left used t room i h) in
         asked_all classes class (keys_among Timetbls used t) upto n x.clear (λ j a b. omega arith)
 
     -- or after as many services as are left to be asked
-    pub enough : n ≡ upto → ClassAsked classes class (keys_among Timetbls used t) upto (Upto upto)
+    pub enough : n ≡ upto → ClassAsked classes class (keys_among Timetbls used t) upto (Some upto)
     enough e = asked_all classes class (keys_among Timetbls used t) upto n x.clear (λ j a b. omega arith)
 
     module _ (h : i < used) (ne : n ≡ upto → ⊥) (key : ℕ) (is : key ≡ word (row_at (row_width Timetbls) t i) (key_word Timetbls)) where
@@ -112,7 +112,7 @@ module _ (classes class used upto : ℕ) (t : List ℕ) (room : used * row_width
       here = x.left ∙ (next_service used t room i h (x.head h) ∙ rw is)
 
       -- a service that came before
-      pub came : Held ps key → ClassAsked classes class (keys_among Timetbls used t) upto (Upto n)
+      pub came : Held ps key → ClassAsked classes class (keys_among Timetbls used t) upto (Some n)
       came c =
           let ks = keys_among Timetbls used t in
           let e = there_is ks n key (services_from t used (suc i)) here in

@@ -1,5 +1,5 @@
 -- Keys asked class by class. A key that comes twice is of one class both times: where in no class one comes again, none does.
-use Rattle.std.specs.Prelude.{ℕ, ◌+◌, ◌%◌, ◌≤◌, ◌<◌, ◌≡◌, List, true, length, get_or, drop}
+use Rattle.std.specs.Prelude.{ℕ, ◌+◌, ◌%◌, ◌≤◌, ◌<◌, ◌≡◌, List, true, length, get_or, drop, Option, Some}
 use Rattle.iff.specs.declared.File.TheVariants.{Timetbls}
 use Rattle.iff.specs.Tables.{row_width, row_at, is_hash_row, keys_of}
 use Rattle.keys.specs.Blocks.{rows_between}
@@ -7,8 +7,6 @@ use Rattle.keys.specs.Lookup.{keys_among}
 use Rattle.key_sets.specs.Sets.{Held, NewPut, Stands}
 use Rattle.key_sets.specs.declared.Tried.{Tried}
 use Rattle.key_sets.specs.declared.Tried.TheVariants.{Goes, Came}
-use Rattle.key_classes.specs.declared.Asked.{Asked}
-use Rattle.key_classes.specs.declared.Asked.TheVariants.{Upto}
 
 -- a key's class, of so many: any function of the key serves
 unfoldable pub class_of : ℕ → ℕ → ℕ
@@ -42,8 +40,8 @@ pub record ClassLeft (classes class : ℕ) (ks : List ℕ) (upto n : ℕ) : Type
   pub clear : ClearTo classes class ks n
   pub again : n < upto → CameAgain ks n
 
-pub record ClassAsked (classes class : ℕ) (ks : List ℕ) (upto : ℕ) (r : Asked) : Type 0 where
-  pub left : (n : ℕ) → r ≡ Upto n → ClassLeft classes class ks upto n
+pub record ClassAsked (classes class : ℕ) (ks : List ℕ) (upto : ℕ) (r : Option ℕ) : Type 0 where
+  pub left : (n : ℕ) → r ≡ Some n → ClassLeft classes class ks upto n
 
 -- those of the first n keys that are of the class are in the set, and no others
 pub record SetOf (classes class : ℕ) (ks : List ℕ) (n slots : ℕ) (ps : List ℕ) : Type 0 where

@@ -10,13 +10,6 @@ ghost use Rattle.key_classes.specs.Classes.{class_of, KeyTried, ClassAsked};
 
 use key_sets::Tried;
 
-// How many services are left to be asked after a class: no fewer, or those before the first of the class that came before; or nothing is told.
-#[derive(Clone, Copy)]
-pub enum Asked {
-    Upto(usize),
-    Nothing,
-}
-
 // The class of a key. Numbers come in runs and in steps, and what is left of them by a prime is of every class, whatever the step.
 fn class_of(key: u64, classes: u64) -> u64
     requires { 0 < classes }
@@ -36,7 +29,8 @@ fn try_key(set: &mut [u32], classes: u64, class: u64, key: u64) -> Tried
     Tried::Goes
 }
 
-// Asks for the services of a class among the first `upto`, by a set that is empty at first.
+// Asks for the services of a class among the first `upto`, by a set that is empty at first. How many services are left to be asked after it: no fewer,
+// or those before the first of the class that came before; or nothing is told.
 fn walk_class(
     t: &[u64],
     used: usize,
@@ -44,33 +38,34 @@ fn walk_class(
     classes: u64,
     class: u64,
     set: &mut [u32],
-) -> Asked
+) -> Option<usize>
     requires { (used * row_width Timetbls ≤ length t.now) × (0 < classes) × AllFree set.old }
     ensures { ClassAsked classes class (keys_among Timetbls used t.now) upto result }
 {
     let mut met = 0;
     let mut i = walks::next_head(t, tables::BLOCK_WIDTH, 0, used);
+    // A loop by hand: where the next block begins is known only once its `#` is found, so no range says it.
     while i < used {
         if met == upto {
-            return Asked::Upto(upto);
+            return Some(upto);
         }
         let key = tables::word_at(t, tables::BLOCK_WIDTH, i, iff::words::NAMED);
         match try_key(set, classes, class, key) {
             Tried::Goes => {}
-            Tried::Came => return Asked::Upto(met),
-            Tried::NoRoom => return Asked::Nothing,
+            Tried::Came => return Some(met),
+            Tried::NoRoom => return None,
         }
         met += 1;
         i = walks::next_head(t, tables::BLOCK_WIDTH, i + 1, used);
     }
-    Asked::Upto(upto)
+    Some(upto)
 }
 
 // How many slots a set has.
 const SLOTS: usize = 215000;
 
 // The same with a set of its own.
-pub fn ask_class(t: &[u64], used: usize, upto: usize, classes: u64, class: u64) -> Asked
+pub fn ask_class(t: &[u64], used: usize, upto: usize, classes: u64, class: u64) -> Option<usize>
     requires { (used * row_width Timetbls ≤ length t.now) × (0 < classes) }
     ensures { ClassAsked classes class (keys_among Timetbls used t.now) upto result }
 {

@@ -21,30 +21,28 @@ pub fn found_by_place(
     used: usize,
     places: &[u32],
     key: u64,
-) -> iff::RowOf
+) -> Option<usize>
     ensures { HitRow file used t.now key result }
 {
     let slots = places.len();
     if slots <= PROBES {
-        return iff::RowOf::NoRow;
+        return None;
     }
     let w = tables::row_width(file);
     let tag = keys::key_tag(file);
     let col = keys::key_word(file);
     let rows = keys::rows_among(t, w, used);
-    let mut at = keys::place_of(key, slots);
-    let end = at + PROBES;
-    while at < end {
-        let row = place_row(places[at]);
+    let at = keys::place_of(key, slots);
+    for place in &places[at..at + PROBES] {
+        let row = place_row(*place);
         if row == 0 {
-            return iff::RowOf::NoRow;
+            return None;
         }
         if row < rows {
             if tables::keyed_at(t, w, row, tag, col, key) {
-                return iff::RowOf::Row(row);
+                return Some(row);
             }
         }
-        at += 1;
     }
-    iff::RowOf::NoRow
+    None
 }

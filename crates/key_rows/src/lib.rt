@@ -14,25 +14,23 @@ pub fn find_key_in(
     tag: u64,
     col: usize,
     key: u64,
-) -> iff::RowOf
+) -> Option<usize>
     requires { (col < w) × (to * w ≤ length t.now) }
     ensures { result ≡ first_row (keyed tag col key) from (rows_up_to w (to - from) (drop (from * w) t.now)) }
 {
-    let mut i = from;
-    while i < to {
+    for i in from..to {
         if tables::word_at(t, w, i, iff::words::TAG) == 0 {
-            return iff::RowOf::NoRow;
+            return None;
         }
         if tables::keyed_at(t, w, i, tag, col, key) {
-            return iff::RowOf::Row(i);
+            return Some(i);
         }
-        i += 1;
     }
-    iff::RowOf::NoRow
+    None
 }
 
 // The first row of a table with this tag and key.
-pub fn find_key(t: &[u64], w: usize, tag: u64, col: usize, key: u64) -> iff::RowOf
+pub fn find_key(t: &[u64], w: usize, tag: u64, col: usize, key: u64) -> Option<usize>
     requires { col < w }
     ensures { result ≡ first_row (keyed tag col key) 0 (rows_of_width w t.now) }
 {
@@ -44,8 +42,5 @@ pub fn has_key(t: &[u64], w: usize, tag: u64, col: usize, key: u64) -> bool
     requires { col < w }
     ensures { result ≡ any (keyed tag col key) (rows_of_width w t.now) }
 {
-    match find_key(t, w, tag, col, key) {
-        iff::RowOf::Row(_) => true,
-        iff::RowOf::NoRow => false,
-    }
+    find_key(t, w, tag, col, key).is_some()
 }

@@ -33,9 +33,7 @@ fn probe(set: &[u32], key: u64) -> Met
 {
     let held = (key + 1) as u32;
     let from = keys::place_of(key, set.len() - MORE);
-    let end = from + WINDOW;
-    let mut at = from;
-    while at < end {
+    for at in from..from + WINDOW {
         let slot = set[at];
         if slot == 0 {
             return Met::Free(at);
@@ -43,7 +41,6 @@ fn probe(set: &[u32], key: u64) -> Met
         if slot == held {
             return Met::Taken;
         }
-        at += 1;
     }
     Met::Full
 }

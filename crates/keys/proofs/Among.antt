@@ -1,4 +1,5 @@
 -- The first rows of a table: a row of them that is keyed is a row of its key, and as many as are in use name what the table names. Assumes nothing.
+use Rattle.std.specs.Prelude.{None, Option, Some}
 use Prim.Native.Nat.{ℕ, zero, suc, ◌+◌, ◌-◌, ◌*◌, ◌/◌, ◌≤◌, ◌<◌}
 use mathlib.Core.Path.{◌≡◌, refl, ap, sym, ◌∙◌}
 use mathlib.Core.List.{List}
@@ -10,14 +11,12 @@ use lib.Dec.{ltb}
 use lib.ListN.{length}
 use lib.Seq.{take-length}
 use Rattle.iff.specs.declared.File.{File}
-use Rattle.iff.specs.declared.RowOf.{RowOf}
-use Rattle.iff.specs.declared.RowOf.TheVariants.{Row as RowIs, NoRow}
 use Rattle.iff.specs.Lists.{has, any}
 use Rattle.iff.specs.Tables.{Row, row_width, row_at, rows_in, key_tag, key_word, keys_of, keyed}
 use Rattle.tables.proofs.Rows.{row_in_table, rows_most}
 use Rattle.tables.proofs.Widths.{widths}
 use Rattle.tables.proofs.Keys.{has_keys}
-use Rattle.tables.proofs.First.{found}
+use Rattle.std.specs.Option.{is_some}
 use Rattle.keys.specs.Blocks.{block_of_rows, rows_between}
 use Rattle.keys.specs.Lookup.{keys_in, at_most, rows_among, keys_among, KeyRow, HitRow, FoundRow}
 use Rattle.keys.proofs.Blocks.{between_in_table}
@@ -67,24 +66,24 @@ module _ (f : File) (used : ℕ) (t : List ℕ) (k : ℕ) where
       has_keys f k (rows_among (row_width f) used t)
       ∙ any_row (keyed (key_tag f) (key_word f) k) (row_width f) t 0 (at_most used (length t / row_width f) - 0) i (omega arith) (omega arith) h.names
 
-  pub hit_none : HitRow f used t k NoRow
-  hit_none = record { found = λ i e. absurd (true≢false (sym (ap found e))) }
+  pub hit_none : HitRow f used t k None
+  hit_none = record { found = λ i e. absurd (true≢false (sym (ap is_some e))) }
 
-  pub as_found : (i : ℕ) → KeyRow f used t k i → FoundRow f used t k (RowIs i)
+  pub as_found : (i : ℕ) → KeyRow f used t k i → FoundRow f used t k (Some i)
   as_found i h =
       record {
         found = λ j e. let z : i ≡ j = cc in rw (← z) h;
-        none = λ e. absurd (true≢false (ap found e));
+        none = λ e. absurd (true≢false (ap is_some e));
       }
 
   -- a search that hit has found
-  pub hit_found : (r : RowOf) → HitRow f used t k r → (i : ℕ) → r ≡ RowIs i → FoundRow f used t k (RowIs i)
+  pub hit_found : (r : Option ℕ) → HitRow f used t k r → (i : ℕ) → r ≡ Some i → FoundRow f used t k (Some i)
   hit_found r h i e = as_found i (h.found i e)
 
   -- whether a key is named is whether its row is found
-  pub found_named : (r : RowOf) → FoundRow f used t k r → found r ≡ has k (keys_among f used t)
-  found_named (RowIs i) h = sym (key_named i (h.found i refl))
-  found_named NoRow h = sym (h.none refl)
+  pub found_named : (r : Option ℕ) → FoundRow f used t k r → is_some r ≡ has k (keys_among f used t)
+  found_named (Some i) h = sym (key_named i (h.found i refl))
+  found_named None h = sym (h.none refl)
 
 -- the lookup asks for the file's own tag and word, in rows of its width
 module _ (f : File) (w tag col : ℕ) (v : w ≡ row_width f) (g : tag ≡ key_tag f) (m : col ≡ key_word f)
@@ -96,14 +95,14 @@ module _ (f : File) (w tag col : ℕ) (v : w ≡ row_width f) (g : tag ≡ key_t
         names = rw (← v, ← g, ← m) (sym e ∙ y);
       }
 
-  pub row_hit : (i : ℕ) → i < n → (b : Bool) → b ≡ keyed tag col k (row_at w t i) → b ≡ true → HitRow f used t k (RowIs i)
+  pub row_hit : (i : ℕ) → i < n → (b : Bool) → b ≡ keyed tag col k (row_at w t i) → b ≡ true → HitRow f used t k (Some i)
   row_hit i h b e y = record { found = (as_found f used t k i (key_row_lem i h b e y)).found }
 
-  pub row_found : (i : ℕ) → i < n → (b : Bool) → b ≡ keyed tag col k (row_at w t i) → b ≡ true → FoundRow f used t k (RowIs i)
+  pub row_found : (i : ℕ) → i < n → (b : Bool) → b ≡ keyed tag col k (row_at w t i) → b ≡ true → FoundRow f used t k (Some i)
   row_found i h b e y = as_found f used t k i (key_row_lem i h b e y)
 
   -- no row of them all
-  pub none_found : any (keyed tag col k) (rows_between w t 0 n) ≡ false → FoundRow f used t k NoRow
+  pub none_found : any (keyed tag col k) (rows_between w t 0 n) ≡ false → FoundRow f used t k None
   unfolding keys_among
   none_found e =
       record {

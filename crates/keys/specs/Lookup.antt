@@ -1,8 +1,6 @@
 -- The keys that a table holds.
-use Rattle.std.specs.Prelude.{ℕ, ◌/◌, ◌<◌, ◌≡◌, List, Bool, true, false, cond, eqb, ltb, length}
+use Rattle.std.specs.Prelude.{ℕ, ◌/◌, ◌<◌, ◌≡◌, List, Bool, true, false, cond, eqb, ltb, length, None, Option, Some}
 use Rattle.iff.specs.declared.File.{File}
-use Rattle.iff.specs.declared.RowOf.{RowOf}
-use Rattle.iff.specs.declared.RowOf.TheVariants.{Row as RowIs, NoRow}
 use Rattle.iff.specs.Lists.{has}
 use Rattle.iff.specs.Tables.{Row, tag, row_width, row_at, rows_in, key_tag, key_word, keys_of, keyed}
 use Rattle.keys.specs.Blocks.{rows_between}
@@ -31,10 +29,10 @@ pub record KeyRow (f : File) (used : ℕ) (t : List ℕ) (key i : ℕ) : Type 0 
   pub names : keyed (key_tag f) (key_word f) key (row_at (row_width f) t i) ≡ true
 
 -- what a search answers that may miss
-pub record HitRow (f : File) (used : ℕ) (t : List ℕ) (key : ℕ) (r : RowOf) : Type 0 where
-  pub found : (i : ℕ) → r ≡ RowIs i → KeyRow f used t key i
+pub record HitRow (f : File) (used : ℕ) (t : List ℕ) (key : ℕ) (r : Option ℕ) : Type 0 where
+  pub found : (i : ℕ) → r ≡ Some i → KeyRow f used t key i
 
 -- what a lookup answers: such a row, or that no row names the key
-pub record FoundRow (f : File) (used : ℕ) (t : List ℕ) (key : ℕ) (r : RowOf) : Type 0 where
-  pub found : (i : ℕ) → r ≡ RowIs i → KeyRow f used t key i
-  pub none : r ≡ NoRow → has key (keys_among f used t) ≡ false
+pub record FoundRow (f : File) (used : ℕ) (t : List ℕ) (key : ℕ) (r : Option ℕ) : Type 0 where
+  pub found : (i : ℕ) → r ≡ Some i → KeyRow f used t key i
+  pub none : r ≡ None → has key (keys_among f used t) ≡ false

@@ -1,10 +1,9 @@
 -- TIMETBLS and the files after it, read one after the other: what their readers ask and tell.
 use Rattle.std.specs.Prelude.{ℕ, ◌≡◌, List, true}
-use Rattle.iff.specs.Refusals.{fine}
+use Rattle.iff.specs.Refusals.{fine, Verdict}
 use Rattle.iff.specs.declared.GroupFile.TheVariants.{Changes, Xfootnote, Xchanges}
 use Rattle.iff.specs.declared.File.TheVariants.{Groups, Timetbls}
 use Rattle.iff.specs.declared.Form.{Form}
-use Rattle.iff.specs.declared.Verdict.{Verdict}
 use Rattle.references.specs.Agree.{BlockKeys, GroupKeys}
 use Rattle.reading.specs.Reading.{Ready, FileRead}
 use Rattle.block_walks.specs.Blocks.{Counted}

@@ -1,13 +1,15 @@
 -- Laws of marks: a leg more is marked, and each leg of a block has one mark. Assumes nothing.
 use Prim.Native.Nat.{ℕ, zero, suc, ◌+◌, ◌-◌, ◌≤◌, ◌<◌}
-use mathlib.Core.Path.{◌≡◌, refl, sym, ◌∙◌}
+use mathlib.Core.Path.{◌≡◌, refl, ap, sym, ◌∙◌}
 use mathlib.Core.List.{List}
-use mathlib.Core.Bool.{Bool, true, false, ◌&&◌, and-false}
+use mathlib.Core.Bool.{Bool, true, false, ◌&&◌, and-true, and-false}
 use native.Mathlib.Omega.{arith}
 use lib.Dec.{eqb, leb, ltb}
-use lib.ListN.{length, get_or, set, replicate, length-set}
-use lib.Seq.{get_or-set_same, get_or-set_other}
-use borrow.Author.Tests.{eq-eqb, ne_eqb, eqb-true, eqb-false, le-leb, lt-leb, lt-ltb, le-ltb, ltb-true, ltb-false}
+use lib.ListN.{length, get_or, take, drop, set, replicate, length-set, length-drop}
+use lib.Seq.{get_or-drop, get_or-set_same, get_or-set_other, take-suc}
+use borrow.Author.Tests.{ne_eqb, eqb-true, eqb-false, le-leb, lt-leb, lt-ltb, le-ltb, ltb-true, ltb-false}
+use Rattle.std.specs.List.{list_all}
+use Rattle.std.proofs.lemmas.List.Recursion.{and_push}
 use Rattle.iff_rules.specs.Legs.{one, covering, covered}
 use Rattle.iff.specs.Tables.{Row}
 use Rattle.leg_marks.specs.Once.{once_to}
@@ -96,10 +98,6 @@ marking_next was is first last leg h n z m = (length-set is leg 1 ∙ m.0, omega
 
 -- ONCE EACH
 module _ (count : ℕ → ℕ) where
-  pub once_step : (m j : ℕ) → m ≡ suc j → once_to m count ≡ (eqb (count m) 1 && once_to j count)
-  unfolding once_to
-  once_step m j e = rw e
-
   -- a leg that is counted twice
   pub once_not : (m k : ℕ) → 0 < k → k ≤ m → 1 < count k → once_to m count ≡ false
   unfolding once_to
@@ -115,21 +113,21 @@ module _ (count : ℕ → ℕ) where
           let s = eqb-false k (suc m) e in
           rw (ih (omega arith), and-false)
 
-  -- a loop over the legs, from the last down, that has `leg` left to ask
-  abbrev pub Down : ℕ → ℕ → Type 0
-  Down legs leg = (leg ≤ legs) × (once_to legs count ≡ once_to leg count)
+-- std's test of the marks of legs 1 to m is the same
+swap : (x y : Bool) → (x && y) ≡ (y && x)
+swap true y = sym (and-true y)
+swap false y = sym (and-false y)
 
-  pub down_not : (legs leg : ℕ) → 0 < leg → (count leg ≡ 1 → ⊥) → Down legs leg → false ≡ once_to legs count
-  down_not legs leg h q d = sym (d.1 ∙ once_step leg (leg - 1) (omega arith) ∙ rw (ne_eqb (count leg) 1 q))
-
-  pub down_next : (legs leg : ℕ) → 0 < leg → count leg ≡ 1 → Down legs leg → Down legs (leg - 1)
-  down_next legs leg h q d = (omega arith, d.1 ∙ once_step leg (leg - 1) (omega arith) ∙ rw (eq-eqb (count leg) 1 q))
-
-  pub down_all : (legs leg : ℕ) → leg ≤ 0 → Down legs leg → true ≡ once_to legs count
-  unfolding once_to
-  down_all legs leg h d =
-      let e : leg ≡ 0 = omega arith in
-      sym (d.1 ∙ rw e)
+pub once_all : (m : ℕ) (s : List ℕ) → m < length s → list_all (λ k. eqb k 1) (take m (drop 1 s)) ≡ once_to m (λ k. get_or s k 0)
+unfolding once_to
+once_all zero s h = refl
+once_all (suc m) s h =
+    let l : m < length (drop 1 s) = rw length-drop (omega arith) in
+    let n : 1 + m ≡ suc m = omega arith in
+    let g : get_or (drop 1 s) m 0 ≡ get_or s (suc m) 0 = rw n at (get_or-drop 1 s m 0) in
+    ap (list_all (λ k. eqb k 1)) (take-suc (drop 1 s) m 0 l)
+    ∙ and_push (list_all (λ k. eqb k 1)) (λ k. eqb k 1) refl (λ _ _. refl) (take m (drop 1 s)) (get_or (drop 1 s) m 0)
+    ∙ rw (g, once_all m s (omega arith)) (swap _ (eqb (get_or s (suc m) 0) 1))
 
 pub once_same : (f g : ℕ → ℕ) → ((k : ℕ) → f k ≡ g k) → (m : ℕ) → once_to m f ≡ once_to m g
 unfolding once_to

@@ -15,14 +15,11 @@ pub fn mark_legs(marks: &mut [u8], first: u64, last: u64) -> bool
     requires { (first ≤ last) × (last ≤ length marks.old) }
     ensures { Tally first last (λ k. one (leb first k && ltb k last)) marks.old marks.new result }
 {
-    let end = last as usize;
-    let mut leg = first as usize;
-    while leg < end {
+    for leg in first as usize..last as usize {
         if marks[leg] != 0 {
             return false;
         }
         marks[leg] = 1;
-        leg += 1;
     }
     true
 }
@@ -31,7 +28,7 @@ pub fn mark_legs(marks: &mut [u8], first: u64, last: u64) -> bool
 pub fn legs_of(n: usize) -> usize
     ensures { result ≡ n - 1 }
 {
-    if n == 0 { 0 } else { n - 1 }
+    n.saturating_sub(1)
 }
 
 // Legs 1 to `legs` are marked.
@@ -39,12 +36,5 @@ pub fn all_marked(marks: &[u8], legs: usize) -> bool
     requires { legs < length marks.now }
     ensures { result ≡ once_to legs (λ k. get_or marks.now k 0) }
 {
-    let mut leg = legs;
-    while 0 < leg {
-        if marks[leg] != 1 {
-            return false;
-        }
-        leg -= 1;
-    }
-    true
+    marks[1..=legs].iter().all(|mark| *mark == 1)
 }

@@ -10,13 +10,7 @@ ghost use Rattle.line_counts.specs.Ends.{one, ends, unended};
 fn end_of(b: u8, c: u8) -> u8
     ensures { (result ≡ one (crlf b c)) × (result ≤ 1) }
 {
-    if b == b'\r' {
-        if c == b'\n' {
-            return 1;
-        }
-        return 0;
-    }
-    0
+    u8::from(b == b'\r' && c == b'\n')
 }
 
 // How often CR LF begins from `from` on and before `to`.
@@ -25,11 +19,8 @@ fn ends_in(text: &[u8], from: usize, to: usize) -> u8
     ensures { (result + ends (drop to text.now) ≡ ends (drop from text.now)) × (result ≤ 240) }
 {
     let mut n: u8 = 0;
-    let mut i = from;
-    while i < to {
-        let j = i + 1;
-        n += end_of(text[i], text[j]);
-        i = j;
+    for i in from..to {
+        n += end_of(text[i], text[i + 1]);
     }
     n
 }
@@ -60,12 +51,8 @@ pub fn count_lines(text: &[u8]) -> usize
     }
     let last = text.len() - 1;
     let mut n: usize = 0;
-    let mut i: usize = 0;
-    while 240 <= last - i {
-        let j = i + 240;
-        n += ends_in(text, i, j) as usize;
-        i = j;
+    for i in (0..last).step_by(240) {
+        n += ends_in(text, i, last.min(i + 240)) as usize;
     }
-    n += ends_in(text, i, last) as usize;
     n + remainder_of(text, last)
 }

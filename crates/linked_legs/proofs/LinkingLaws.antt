@@ -1,6 +1,6 @@
 -- Records that follow each other, row by row. Assumes nothing.
 use Prim.Native.Nat.{ℕ, ◌+◌, ◌≤◌, ◌<◌}
-use mathlib.Core.Path.{◌≡◌, refl, sym}
+use mathlib.Core.Path.{◌≡◌, sym}
 use mathlib.Core.List.{List}
 use mathlib.Core.Bool.{true, false, and-false}
 use lib.Dec.{eqb}
@@ -53,9 +53,6 @@ pub record Linking (t : List ℕ) (from to n i number validity mode : ℕ) : Typ
   pub modes : linked ampersand 1 n (block_between t from to) ≡ linked ampersand mode n (block_between t i to)
 
 module _ (t : List ℕ) (from to n : ℕ) where
-  pub linking_first : Linking t from to n from 1 1 1
-  linking_first = record { ranged = refl; numbers = refl; validities = refl; modes = refl }
-
   abbrev rows : List Row
   rows = block_between t from to
 

@@ -49,13 +49,11 @@ pub fn are_linked(t: &[u64], from: usize, to: usize, n: u64, kind: u64) -> bool
     ensures { result ≡ linked kind 1 n (block_between t.now from to) }
 {
     let mut at: u64 = 1;
-    let mut i = from;
-    while i < to {
+    for i in from..to {
         at = stop_after_at(t, i, kind, at);
         if at == 0 {
             return false;
         }
-        i += 1;
     }
     at == n
 }
@@ -68,8 +66,7 @@ pub fn are_all_linked(t: &[u64], from: usize, to: usize, n: u64) -> bool
     let mut number: u64 = 1;
     let mut validity: u64 = 1;
     let mut mode: u64 = 1;
-    let mut i = from;
-    while i < to {
+    for i in from..to {
         let ranged = in_range_at(t, i, n);
         if !ranged {
             return false;
@@ -86,7 +83,6 @@ pub fn are_all_linked(t: &[u64], from: usize, to: usize, n: u64) -> bool
         if mode == 0 {
             return false;
         }
-        i += 1;
     }
     if number != n {
         return false;

@@ -1,19 +1,20 @@
 -- A LOAD: what its parts say makes what it promises. Assumes nothing.
+use Rattle.std.specs.Prelude.{Err, Ok}
 use Prim.Native.Nat.{ℕ, zero, suc, ◌-◌, ◌*◌, ◌≤◌}
 use mathlib.Core.Path.{◌≡◌, refl, ap, sym, ◌∙◌}
 use mathlib.Core.List.{List, [], ◌∷◌}
 use mathlib.Core.Bool.{Bool, true, false, cond, false≢true}
 use native.Mathlib.Omega.{arith}
 use borrow.Author.Tests.{leb-true}
-use lib.Dec.{leb, lit≤}
+use lib.Dec.{leb}
 use lib.ListN.{length, get_or, replicate, length-replicate}
-use Rattle.iff.specs.Refusals.{or_else, first_fault, fine, answer}
+use Rattle.iff.specs.Refusals.{or_else, first_fault, fine, answer, Answer, Verdict, at_place}
 use Rattle.iff.specs.Files.{PerFile, of, per_file, eleven, limit}
 use Rattle.iff.specs.Lines.{Line, lines}
 use Rattle.iff.specs.Columns.{form424}
 use Rattle.iff.specs.Days.{span}
 use Rattle.iff.specs.Values.{words, field_words}
-use Rattle.iff.specs.Tables.{Row, word, row_width, room, padded, joined, fill, keys_of}
+use Rattle.iff.specs.Tables.{Row, row_width, room, padded, joined, fill, keys_of}
 use Rattle.iff.specs.Words.{own_company, first_day, last_day}
 use Rattle.iff.specs.declared.RowFile.{RowFile}
 use Rattle.iff.specs.declared.RowFile.TheVariants.{Company, Country, Trnsmode, Stations}
@@ -23,18 +24,11 @@ use Rattle.iff.specs.declared.File.{File}
 use Rattle.iff.specs.declared.File.TheVariants.{Delivery, Rows, Groups, Timetbls}
 use Rattle.iff.specs.declared.Form.{Form}
 use Rattle.iff.specs.declared.Reason.TheVariants.{NoRoom}
-use Rattle.iff.specs.declared.Place.TheVariants.{At}
-use Rattle.iff.specs.declared.Verdict.{Verdict}
-use Rattle.iff.specs.declared.Verdict.TheVariants.{Fine, Fault}
-use Rattle.iff.specs.declared.Answer.{Answer}
 use Rattle.iff_rules.specs.Rows.{first_row_of, rows_of_lines, form_of, first_of, delivery_rows, rows_of_files, Context, context_of}
-use Rattle.iff_rules.specs.Load.{fault_unless, room_verdict, over_files, delivery_verdict, company_verdict, file_verdict, contents_verdict, load_verdict, load_answer, filled, load_table}
+use Rattle.iff_rules.specs.Load.{fault_unless, room_verdict, over_files, company_verdict, file_verdict, contents_verdict, load_verdict, load_answer, filled, load_table}
 use Rattle.keys.specs.Lookup.{keys_in, keys_among}
 use Rattle.keys.proofs.Among.{keys_counted}
-use Rattle.references.specs.Agree.{BlockKeys, StationKeys, GroupKeys}
-use Rattle.references.specs.Company.{company_named}
-use Rattle.reading.specs.Reading.{Ready, FileRead, DeliveryRead, head_line}
-use Rattle.block_walks.specs.Blocks.{Counted}
+use Rattle.reading.specs.Reading.{Ready, head_line}
 use Rattle.iff_laws.specs.Outcomes.{Loaded}
 use Rattle.iff_laws.specs.ScanLaws.{or_fine, cons_fine, or_nothing}
 use Rattle.first_files.specs.Firsts.{Seven, seven, FirstsReady, FirstsRead}
@@ -48,40 +42,40 @@ use Rattle.file_laws.proofs.RowLaws.{Held, held_rows, held_groups, held_timetbls
 use Rattle.file_laws.proofs.ContextLaws.{Keys, asking, asked, advance, back, delivery_back, rows_back, groups_back, rows_said, groups_said, blocks_said, said_for}
 
 -- SIZES: after them each file has room in its table
-fine_is : (v : Verdict) → fine v ≡ true → v ≡ Fine
-fine_is Fine e = refl
-fine_is (Fault r p) e = absurd (false≢true e)
+fine_is : (v : Verdict) → fine v ≡ true → v ≡ Ok tt
+fine_is (Ok _) e = refl
+fine_is (Err fault) e = absurd (false≢true e)
 
 -- what holds of the first fault of a list holds of each entry
-none_at : (vs : List Verdict) → first_fault vs ≡ Fine → (i : ℕ) → get_or vs i Fine ≡ Fine
+none_at : (vs : List Verdict) → first_fault vs ≡ Ok tt → (i : ℕ) → get_or vs i (Ok tt) ≡ Ok tt
 none_at [] e i = refl
 none_at (v ∷ vs) e zero = (cons_fine v vs e).0
 none_at (v ∷ vs) e (suc i) = none_at vs (cons_fine v vs e).1 i
 
-module _ (v : File → Verdict) (e : over_files v ≡ Fine) where
-  rows_fine : (f : RowFile) → v (Rows f) ≡ Fine
+module _ (v : File → Verdict) (e : over_files v ≡ Ok tt) where
+  rows_fine : (f : RowFile) → v (Rows f) ≡ Ok tt
   rows_fine Company = none_at _ e 1
   rows_fine Country = none_at _ e 2
   rows_fine Trnsmode = none_at _ e 3
   rows_fine Stations = none_at _ e 5
 
-  groups_fine : (f : GroupFile) → v (Groups f) ≡ Fine
+  groups_fine : (f : GroupFile) → v (Groups f) ≡ Ok tt
   groups_fine Timezone = none_at _ e 4
   groups_fine Footnote = none_at _ e 6
   groups_fine Changes = none_at _ e 8
   groups_fine Xfootnote = none_at _ e 9
   groups_fine Xchanges = none_at _ e 10
 
-  each_fine : (f : File) → v f ≡ Fine
+  each_fine : (f : File) → v f ≡ Ok tt
   each_fine Delivery = none_at _ e 0
   each_fine (Rows f) = rows_fine f
   each_fine (Groups f) = groups_fine f
   each_fine Timetbls = none_at _ e 7
 
-room_fits : (f : File) (n m : ℕ) → room_verdict f n m ≡ Fine → n ≤ room f m
+room_fits : (f : File) (n m : ℕ) → room_verdict f n m ≡ Ok tt → n ≤ room f m
 room_fits f n m e = go (leb n (room f m)) refl e
   where
-    go : (b : Bool) → leb n (room f m) ≡ b → fault_unless b NoRoom (At f 0 0) ≡ Fine → n ≤ room f m
+    go : (b : Bool) → leb n (room f m) ≡ b → fault_unless b NoRoom (at_place f 0 0) ≡ Ok tt → n ≤ room f m
     go true q e = leb-true n (room f m) q
     go false q e = absurd (false≢true (ap fine e))
 
@@ -140,26 +134,26 @@ same_rows form (l ∷ ls) = refl
 
 -- AT THE END
 answer_same : (v : Verdict) (d e s t : ℕ) → (fine v ≡ true → d ≡ e) → (fine v ≡ true → s ≡ t) → answer v d s ≡ answer v e t
-answer_same Fine d e s t p q = rw (p refl, q refl)
-answer_same (Fault k o) d e s t p q = refl
+answer_same (Ok _) d e s t p q = rw (p refl, q refl)
+answer_same (Err fault) d e s t p q = refl
 
 final : (f : File) (v : Verdict) (b a : List ℕ) (n : ℕ) (rows : List Row) → b ≡ settled v a → (fine v ≡ true → a ≡ fill (row_width f) n rows)
     → length a ≡ n
     → b ≡ cond (fine v) (filled f n rows) (replicate n 0)
 unfolding filled
-final f Fine b a n rows p h k = p ∙ h refl
-final f (Fault x y) b a n rows p h k = p ∙ rw k
+final f (Ok _) b a n rows p h k = p ∙ h refl
+final f (Err fault) b a n rows p h k = p ∙ rw k
 
 four_first : (a b c x : Verdict) → first_fault (a ∷ b ∷ c ∷ x ∷ []) ≡ or_else (or_else (or_else a b) c) x
 unfolding first_fault
-four_first Fine Fine Fine x = or_nothing x
-four_first Fine Fine (Fault k p) x = refl
-four_first Fine (Fault k p) c x = refl
-four_first (Fault k p) b c x = refl
+four_first (Ok _) (Ok _) (Ok _) x = or_nothing x
+four_first (Ok _) (Ok _) (Err fault) x = refl
+four_first (Ok _) (Err fault) c x = refl
+four_first (Err fault) b c x = refl
 
-later : (v : Verdict) {r : Verdict} (x : Verdict) → r ≡ or_else v x → fine r ≡ true → x ≡ Fine
-later Fine x e g = sym e ∙ fine_is _ g
-later (Fault k p) x e g = absurd (false≢true (rw e at g))
+later : (v : Verdict) {r : Verdict} (x : Verdict) → r ≡ or_else v x → fine r ≡ true → x ≡ Ok tt
+later (Ok _) x e g = sym e ∙ fine_is _ g
+later (Err fault) x e g = absurd (false≢true (rw e at g))
 
 -- A VALUE FOR EACH FILE is the value of each file
 module _ {A : Type 0} (v : File → A) where

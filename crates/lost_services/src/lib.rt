@@ -2,21 +2,20 @@
 // search for the service.
 #![tactic(auto)]
 
-ghost use Rattle.std.specs.Prelude.{◌≡◌, List, [], true};
+ghost use Rattle.std.specs.Prelude.{◌≡◌, List, [], true, Err};
 ghost use Rattle.iff.specs.Files.{PerFile};
 ghost use Rattle.iff.specs.Tables.{Row, rows_in};
 ghost use Rattle.iff.specs.declared.File.TheVariants.{Delivery, Timetbls};
 ghost use Rattle.iff.specs.declared.Reason.TheVariants.{NoService};
 ghost use Rattle.iff_desk.specs.Changing.{change_after, change_in};
 ghost use Rattle.iff_desk.specs.Store.{group_of};
-ghost use Rattle.iff_desk.specs.declared.Change.TheVariants.{ChangeRefused};
 ghost use Rattle.store.specs.Found.{Stored, BlocksTold};
 ghost use Rattle.changing.specs.Agree.{RowsOf, Ready};
 ghost use Rattle.changing.specs.Sides.{side_of, asked_from};
 ghost use Rattle.lost_services.specs.Told.{ServicesTold};
 
 use changing::Visit;
-use iff::{File, Reason, Test};
+use iff::{File, Reason};
 use iff_desk::Change;
 use needed_times::StoreCounts;
 
@@ -38,19 +37,17 @@ fn refused_before(
     places: &[u32],
     counts: StoreCounts,
     from: Visit,
-) -> Change
+) -> Result<Change, Reason>
     requires { Stored Delivery counts.delivery delivery.now
         × Stored Timetbls counts.timetbls timetbls.now
         × BlocksTold timetbls.now }
     ensures { (R : PerFile (List Row))
         → R.delivery ≡ rows_in Delivery delivery.now
         → R.timetbls ≡ rows_in Timetbls timetbls.now
-        → result ≡ change_after (asked_from R (side_of from)) (ChangeRefused NoService) }
+        → result ≡ change_after (asked_from R (side_of from)) (Err NoService) }
 {
-    match changing::asked_from(delivery, timetbls, places, counts, from) {
-        Test::Fails(reason) => Change::ChangeRefused(reason),
-        Test::Passes => Change::ChangeRefused(Reason::NoService),
-    }
+    changing::asked_from(delivery, timetbls, places, counts, from)?;
+    Err(Reason::NoService)
 }
 
 // A change, whether its services are there or not.
@@ -68,7 +65,7 @@ pub fn change_or_lost(
     counts: StoreCounts,
     from: Visit,
     to: Visit,
-) -> Change
+) -> Result<Change, Reason>
     requires { Ready counts places.now delivery.now timezone.now stations.now footnote.now timetbls.now changes.now xfootnote.now xchanges.now
         × ServicesTold services_told counts.timetbls timetbls.now places.now }
     ensures { (R : PerFile (List Row))
@@ -83,7 +80,7 @@ pub fn change_or_lost(
         places,
         from.service,
     ) {
-        return Change::ChangeRefused(Reason::NoService);
+        return Err(Reason::NoService);
     }
     if is_lost(services_told, timetbls, counts.timetbls, places, to.service) {
         return refused_before(delivery, timetbls, places, counts, from);

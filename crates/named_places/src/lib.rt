@@ -4,7 +4,7 @@
 
 ghost use Rattle.std.specs.Prelude.{◌≡◌, false, ◌+◌, ◌*◌, ◌≤◌, length};
 
-use iff::{File, GroupFile, RowFile, RowOf, tags, words};
+use iff::{File, GroupFile, RowFile, tags, words};
 use references::GroupCounts;
 
 // SERVICES of CHANGES
@@ -23,12 +23,8 @@ fn ask_in_line(line: &[u8], places: &mut [u32])
 pub fn index_in_lines(text: &[u8], from: usize, services: &[u64], used: usize, places: &mut [u32])
     ensures { length places.new ≡ length places.old }
 {
-    let mut at = from;
-    while at < text.len() {
-        let span = text::line_at(text, at);
-        let end = span.end;
-        ask_in_line(&text[at..end], places);
-        at = span.next;
+    for line in text_lines::lines_from(text, from) {
+        ask_in_line(line.body, places);
     }
     places::index_asked(services, used, places);
 }
@@ -44,13 +40,7 @@ pub fn ask_missing(
     ensures { (length places.new ≡ length places.old)
         × (result ≡ false → (so_far ≡ false) × (places.new ≡ places.old)) }
 {
-    if let RowOf::Row(_) = key_places::found_by_place(
-        File::Timetbls,
-        services,
-        used,
-        places,
-        service,
-    ) {
+    if let Some(_) = key_places::found_by_place(File::Timetbls, services, used, places, service) {
         return so_far;
     }
     places::ask(places, service);
@@ -94,10 +84,8 @@ pub fn index_in_rows(
     let w = tables::row_width(File::Groups(GroupFile::Changes));
     let end = keys::rows_among(t, w, rows);
     let mut asked = false;
-    let mut i = 0;
-    while i < end {
+    for i in 0..end {
         asked = ask_in_row(asked, t, w, i, services, used, places);
-        i += 1;
     }
     if asked {
         places::index_asked(services, used, places);

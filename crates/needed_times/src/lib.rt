@@ -2,7 +2,7 @@
 // What the answer does not need is not looked for.
 #![tactic(auto)]
 
-ghost use Rattle.std.specs.Prelude.{◌≡◌, List, ◌-◌, length};
+ghost use Rattle.std.specs.Prelude.{◌≡◌, List, ◌-◌, length, None};
 ghost use Rattle.iff.specs.Files.{PerFile};
 ghost use Rattle.iff.specs.Tables.{Row, row_width, rows_in};
 ghost use Rattle.iff.specs.Words.{named, change_flag, change_time};
@@ -11,13 +11,12 @@ ghost use Rattle.iff.specs.declared.GroupFile.TheVariants.{Changes, Xfootnote, X
 ghost use Rattle.iff.specs.declared.File.TheVariants.{Rows, Groups, Timetbls};
 ghost use Rattle.iff_desk.specs.Store.{record_on, station_row};
 ghost use Rattle.iff_desk.specs.Changing.{riding_on, core};
-ghost use Rattle.iff_desk.specs.declared.Pair.TheVariants.{NoPair};
 ghost use Rattle.slots.specs.Slots.{Index};
 ghost use Rattle.store.specs.Found.{Stored, rows_of, Inside};
 ghost use Rattle.needed_times.specs.Needed.{rows_found, best_for, verdict_on};
 
-use iff::{RowOf, tags, words};
-use iff_desk::{Best, Call, Change, Pair, Riding};
+use iff::{tags, words};
+use iff_desk::{Call, Change, Riding};
 use store::Part;
 
 // Rows in use of the tables that a change reads.
@@ -37,7 +36,7 @@ pub struct StoreCounts {
 #[derive(Clone, Copy)]
 pub struct SideRows {
     pub part: Part,
-    pub row: RowOf,
+    pub row: Option<usize>,
     pub station: u64,
 }
 
@@ -80,7 +79,7 @@ fn best_for(
     b: SideRows,
     from: Call,
     to: Call,
-) -> Best
+) -> Option<iff_desk::Best>
     requires { Stored (Groups Xfootnote) counts.xfootnote xfootnotes.now
         × Stored (Groups Xchanges) counts.xchanges xchanges.now
         × Inside (row_width Timetbls) timetbls.now a.part
@@ -135,20 +134,20 @@ fn without_pair(
         → R.xfootnote ≡ rows_in (Groups Xfootnote) xfootnotes.now
         → R.xchanges ≡ rows_in (Groups Xchanges) xchanges.now
         → result
-        ≡ core gap NoPair (change_flag (station_row R a.station))
+        ≡ core gap None (change_flag (station_row R a.station))
         (best_for R (rows_found timetbls.now a) (rows_found timetbls.now b) a.station from to)
         (change_time (station_row R a.station)) }
 {
     let row = store::find_station(stations, counts.stations, places, a.station);
     let flag = store::word_of(stations, store::STATION_WIDTH, row, words::CHANGE_FLAG);
     if flag == 0 {
-        return verdicts::core(gap, Pair::NoPair, 0, Best::NoBest, 0);
+        return verdicts::core(gap, None, 0, None, 0);
     }
     let time = store::word_of(stations, store::STATION_WIDTH, row, words::CHANGE_TIME);
     let best = best_for(
         timetbls, xfootnotes, xchanges, places, heads, counts, a, b, from, to,
     );
-    verdicts::core(gap, Pair::NoPair, flag, best, time)
+    verdicts::core(gap, None, flag, best, time)
 }
 
 // The verdict on a gap, by the first that gives a needed time or forbids the change.
@@ -191,8 +190,8 @@ pub fn by_needed(
         to.service,
     );
     match pair {
-        Pair::Possibility(p) => verdicts::core(gap, Pair::Possibility(p), 0, Best::NoBest, 0),
-        Pair::NoPair => without_pair(
+        Some(p) => verdicts::core(gap, Some(p), 0, None, 0),
+        None => without_pair(
             gap, stations, timetbls, xfootnotes, xchanges, places, heads, counts, a, b, from, to,
         ),
     }

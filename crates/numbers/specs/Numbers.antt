@@ -1,8 +1,7 @@
 -- The answer of a load or an amendment in plain numbers, and what is shown of any answer.
 use Rattle.std.specs.Prelude.{ℕ, List, [], ◌∷◌, ℤ, pos}
 use Rattle.iff.specs.Files.{file_at}
-use Rattle.iff.specs.Refusals.{ordinal, line_at}
-use Rattle.iff.specs.declared.Answer.{Answer}
+use Rattle.iff.specs.Refusals.{ordinal, line_at, Answer}
 use Rattle.iff_desk.specs.Answers.{answer_number, answer_place, answer_days, answer_services}
 
 -- six numbers, the paper's own: the refusal, 0 where there is none; its file, ordinal and line; the days and the services

@@ -7,7 +7,7 @@ ghost use Rattle.iff.specs.Files.{file_number, file_at};
 ghost use Rattle.iff.specs.Refusals.{number, ordinal, line_at};
 ghost use Rattle.numbers.specs.Numbers.{answer_words};
 
-use iff::{Answer, File, GroupFile, Place, Reason, RowFile};
+use iff::{Answer, File, GroupFile, Reason, RowFile};
 
 pub fn number_of(reason: Reason) -> u64
     ensures { result ≡ number reason }
@@ -56,30 +56,30 @@ pub fn number_of_file(file: File) -> u64
     }
 }
 
-pub fn file_of(place: Place) -> u64
+pub fn file_of(place: Option<iff::Place>) -> u64
     ensures { result ≡ file_at place }
 {
     match place {
-        Place::Nowhere => 0,
-        Place::At(file, _, _) => number_of_file(file),
+        None => 0,
+        Some(place) => number_of_file(place.file),
     }
 }
 
-pub fn ordinal_of(place: Place) -> u64
+pub fn ordinal_of(place: Option<iff::Place>) -> u64
     ensures { result ≡ ordinal place }
 {
     match place {
-        Place::Nowhere => 0,
-        Place::At(_, ordinal, _) => ordinal,
+        None => 0,
+        Some(place) => place.ordinal,
     }
 }
 
-pub fn line_of(place: Place) -> u64
+pub fn line_of(place: Option<iff::Place>) -> u64
     ensures { result ≡ line_at place }
 {
     match place {
-        Place::Nowhere => 0,
-        Place::At(_, _, line) => line,
+        None => 0,
+        Some(place) => place.line,
     }
 }
 
@@ -88,12 +88,12 @@ pub fn words_of(answer: Answer) -> [u64; 6]
     ensures { result ≡ answer_words answer }
 {
     match answer {
-        Answer::Accepted(days, services) => [0, 0, 0, 0, days, services],
-        Answer::Refused(reason, place) => {
-            let number = number_of(reason);
-            let file = file_of(place);
-            let ordinal = ordinal_of(place);
-            let line = line_of(place);
+        Ok(done) => [0, 0, 0, 0, done.days, done.services],
+        Err(fault) => {
+            let number = number_of(fault.reason);
+            let file = file_of(fault.place);
+            let ordinal = ordinal_of(fault.place);
+            let line = line_of(fault.place);
             [number, file, ordinal, line, 0, 0]
         }
     }

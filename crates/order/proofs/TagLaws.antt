@@ -1,4 +1,5 @@
 -- A tag that is no byte leads nowhere. Assumes nothing.
+use Rattle.std.specs.Prelude.{None}
 use Prim.Native.Nat.{ℕ, ◌≤◌}
 use mathlib.Core.Path.{◌≡◌, refl}
 use mathlib.Core.Bool.{false}
@@ -8,7 +9,6 @@ use lib.Dec.{eqb}
 use Rattle.iff.specs.Bytes.{hash, percent, ampersand, asterisk, plus, dash, dot, semicolon, less, greater, question}
 use Rattle.iff.specs.declared.Stand.{Stand}
 use Rattle.iff.specs.declared.Stand.TheVariants.{Start, Hash, Percent, Dash, Ampersand, Asterisk, Stop, Between, Last, LastPlatform}
-use Rattle.iff.specs.declared.Next.TheVariants.{NotHere}
 use Rattle.iff_rules.specs.Order.{goes}
 
 module _ (x : ℕ) (h : 256 ≤ x) where
@@ -16,7 +16,7 @@ module _ (x : ℕ) (h : 256 ≤ x) where
   not_letter : (k : ℕ) → k ≤ 255 → eqb x k ≡ false
   not_letter k l = ne_eqb x k (λ e. omega (arith, e))
 
-  pub leads_nowhere : (s : Stand) → goes s x ≡ NotHere
+  pub leads_nowhere : (s : Stand) → goes s x ≡ None
   unfolding goes
   leads_nowhere Start = rw (not_letter hash (omega arith))
   leads_nowhere Hash = rw (not_letter percent (omega arith))

@@ -4,7 +4,7 @@
 ghost use Rattle.std.specs.Prelude.{◌≡◌};
 ghost use Rattle.iff_rules.specs.Order.{is_stop, goes, finished};
 
-use iff::{Next, Stand};
+use iff::Stand;
 
 // `>`, `.`, `+`, `<`
 pub fn is_stop(tag: u64) -> bool
@@ -19,71 +19,71 @@ pub fn is_stop(tag: u64) -> bool
     }
 }
 
-// What a record's letter does where a block stands.
-pub fn goes(stand: Stand, letter: u8) -> Next
+// What a record's letter does where a block stands: where it leads, or that it may not stand there.
+pub fn goes(stand: Stand, letter: u8) -> Option<iff::Stand>
     ensures { result ≡ goes stand letter }
 {
     match stand {
         Stand::Start => match letter {
-            b'#' => Next::Goes(Stand::Hash),
-            _ => Next::NotHere,
+            b'#' => Some(Stand::Hash),
+            _ => None,
         },
         Stand::Hash => match letter {
-            b'%' => Next::Goes(Stand::Percent),
-            _ => Next::NotHere,
+            b'%' => Some(Stand::Percent),
+            _ => None,
         },
         Stand::Percent => match letter {
-            b'%' => Next::Goes(Stand::Percent),
-            b'-' => Next::Goes(Stand::Dash),
-            _ => Next::NotHere,
+            b'%' => Some(Stand::Percent),
+            b'-' => Some(Stand::Dash),
+            _ => None,
         },
         Stand::Dash => match letter {
-            b'-' => Next::Goes(Stand::Dash),
-            b'&' => Next::Goes(Stand::Ampersand),
-            _ => Next::NotHere,
+            b'-' => Some(Stand::Dash),
+            b'&' => Some(Stand::Ampersand),
+            _ => None,
         },
         Stand::Ampersand => match letter {
-            b'&' => Next::Goes(Stand::Ampersand),
-            b'*' => Next::Goes(Stand::Asterisk),
-            b'>' => Next::Goes(Stand::Stop),
-            _ => Next::NotHere,
+            b'&' => Some(Stand::Ampersand),
+            b'*' => Some(Stand::Asterisk),
+            b'>' => Some(Stand::Stop),
+            _ => None,
         },
         Stand::Asterisk => match letter {
-            b'*' => Next::Goes(Stand::Asterisk),
-            b'>' => Next::Goes(Stand::Stop),
-            _ => Next::NotHere,
+            b'*' => Some(Stand::Asterisk),
+            b'>' => Some(Stand::Stop),
+            _ => None,
         },
         Stand::Stop => match letter {
-            b'.' => Next::Goes(Stand::Stop),
-            b'+' => Next::Goes(Stand::Stop),
-            b';' => Next::Goes(Stand::Between),
-            b'?' => Next::Goes(Stand::Between),
-            b'<' => Next::Goes(Stand::Last),
-            _ => Next::NotHere,
+            b'.' => Some(Stand::Stop),
+            b'+' => Some(Stand::Stop),
+            b';' => Some(Stand::Between),
+            b'?' => Some(Stand::Between),
+            b'<' => Some(Stand::Last),
+            _ => None,
         },
         Stand::Between => match letter {
-            b'.' => Next::Goes(Stand::Stop),
-            b'+' => Next::Goes(Stand::Stop),
-            b';' => Next::Goes(Stand::Between),
-            b'<' => Next::Goes(Stand::Last),
-            _ => Next::NotHere,
+            b'.' => Some(Stand::Stop),
+            b'+' => Some(Stand::Stop),
+            b';' => Some(Stand::Between),
+            b'<' => Some(Stand::Last),
+            _ => None,
         },
         Stand::Last => match letter {
-            b'?' => Next::Goes(Stand::LastPlatform),
-            _ => Next::NotHere,
+            b'?' => Some(Stand::LastPlatform),
+            _ => None,
         },
-        Stand::LastPlatform => Next::NotHere,
+        Stand::LastPlatform => None,
     }
 }
 
 // The same of a row's tag. What is no byte is no letter, and leads nowhere.
-pub fn goes_by_tag(stand: Stand, tag: u64) -> Next
+pub fn goes_by_tag(stand: Stand, tag: u64) -> Option<iff::Stand>
     ensures { result ≡ goes stand tag }
 {
     if tag < 256 {
         return goes(stand, tag as u8);
     }
-    Next::NotHere
+    None
 }
 
 // A block may end here.

@@ -1,4 +1,5 @@
 -- The loop over a group's rows of CHANGES: what is left is the whole. Assumes nothing.
+use Rattle.std.specs.Prelude.{None, Option, Some}
 use Prim.Native.Nat.{ℕ, ◌+◌, ◌≤◌, ◌<◌}
 use mathlib.Core.Path.{◌≡◌, ap, sym, ◌∙◌}
 use mathlib.Core.List.{List}
@@ -12,8 +13,6 @@ use Rattle.iff.specs.declared.GroupFile.TheVariants.{Changes}
 use Rattle.iff.specs.declared.File.TheVariants.{Groups}
 use Rattle.iff_desk.specs.Store.{group_of}
 use Rattle.iff_desk.specs.Changing.{pair_in, pair_at}
-use Rattle.iff_desk.specs.declared.Pair.{Pair}
-use Rattle.iff_desk.specs.declared.Pair.TheVariants.{Possibility, NoPair}
 use Rattle.keys.specs.Blocks.{rows_between}
 use Rattle.store.proofs.KeptLaws.{kept_none, kept_here, kept_past}
 use Rattle.store.specs.Found.{GroupAt}
@@ -23,12 +22,12 @@ use Rattle.pairs.proofs.LaterLaws.{later_rows_lem}
 
 -- the rows that pass, from row i on: the first of them
 module _ (p : Row → Bool) (w : ℕ) (t : List ℕ) (to i : ℕ) where
-  pub no_pair : to ≤ i → NoPair ≡ pair_in (kept p (rows_between w t i to))
+  pub no_pair : to ≤ i → None ≡ pair_in (kept p (rows_between w t i to))
   no_pair h = rw (kept_none p w t to i h)
 
   module _ (h : i < to) where
     module _ (x : Bool) (e : x ≡ p (row_at w t i)) where
-      pub pair_here : x ≡ true → Possibility (possibility (row_at w t i)) ≡ pair_in (kept p (rows_between w t i to))
+      pub pair_here : x ≡ true → Some (possibility (row_at w t i)) ≡ pair_in (kept p (rows_between w t i to))
       pair_here g = rw (kept_here p w t to i h x e g)
 
       pub pair_on : x ≡ false → pair_in (kept p (rows_between w t i to)) ≡ pair_in (kept p (rows_between w t (i + 1) to))
@@ -36,7 +35,7 @@ module _ (p : Row → Bool) (w : ℕ) (t : List ℕ) (to i : ℕ) where
 
 -- the group of a station, after its `#`
 module _ (R : PerFile (List Row)) (t : List ℕ) (used station : ℕ) (p : Part) where
-  pub pair_of_group : (a b : ℕ) → R.changes ≡ rows_in (Groups Changes) t → GroupAt (Groups Changes) used t station p → (x : Pair)
+  pub pair_of_group : (a b : ℕ) → R.changes ≡ rows_in (Groups Changes) t → GroupAt (Groups Changes) used t station p → (x : Option ℕ)
       → x ≡ pair_in (kept (is_pair a b) (rows_between (group_width Changes) t (p.from + 1) p.to))
       → x ≡ pair_at R station a b
   unfolding pair_at

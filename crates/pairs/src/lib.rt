@@ -15,7 +15,6 @@ ghost use Rattle.store.specs.Found.{Stored};
 ghost use Rattle.pairs.specs.Rows.{is_pair};
 
 use iff::{File, GroupFile, words};
-use iff_desk::Pair;
 
 // How many words a row of CHANGES has.
 const PAIR_WIDTH: usize = 6;
@@ -32,22 +31,27 @@ fn is_pair(t: &[u64], i: usize, a: u64, b: u64) -> bool
 }
 
 // The first row of two services, of the rows from `from` on and before `to`: its possibility.
-fn pair_in(t: &[u64], from: usize, to: usize, a: u64, b: u64) -> Pair
+fn pair_in(t: &[u64], from: usize, to: usize, a: u64, b: u64) -> Option<u64>
     requires { to * row_width (Groups Changes) ≤ length t.now }
     ensures { result ≡ pair_of (kept (is_pair a b) (rows_between (row_width (Groups Changes)) t.now from to)) }
 {
-    let mut i = from;
-    while i < to {
+    for i in from..to {
         if is_pair(t, i, a, b) {
-            return Pair::Possibility(tables::word_at(t, PAIR_WIDTH, i, words::POSSIBILITY));
+            return Some(tables::word_at(t, PAIR_WIDTH, i, words::POSSIBILITY));
         }
-        i += 1;
     }
-    Pair::NoPair
+    None
 }
 
 // The row of two services at a station.
-pub fn pair_at(changes: &[u64], used: usize, heads: &[u32], station: u64, a: u64, b: u64) -> Pair
+pub fn pair_at(
+    changes: &[u64],
+    used: usize,
+    heads: &[u32],
+    station: u64,
+    a: u64,
+    b: u64,
+) -> Option<u64>
     requires { Stored (Groups Changes) used changes.now × Index (Groups Changes) changes.now used (length heads.now) heads.now }
     ensures { (R : PerFile (List Row)) → R.changes ≡ rows_in (Groups Changes) changes.now → result ≡ pair_at R station a b }
 {

@@ -1,4 +1,5 @@
 -- Laws of looking for a line. Assumes nothing.
+use Rattle.std.specs.Prelude.{None, Option, Some}
 use Prim.Native.Nat.{ℕ, ◌+◌, ◌-◌, ◌≤◌}
 use mathlib.Core.Path.{◌≡◌, refl, ap, sym, ◌∙◌}
 use mathlib.Core.List.{List, [], ◌∷◌, ◌++◌}
@@ -11,8 +12,6 @@ use lib.Seq.{length-take-le}
 use Rattle.iff.specs.Bytes.{hash}
 use Rattle.iff.specs.Lines.{Line, lines, text, size, is_hash}
 use Rattle.iff_desk.specs.Parts.{seek, seek_after, is_station, is_head}
-use Rattle.iff_desk.specs.declared.Offset.{Offset}
-use Rattle.iff_desk.specs.declared.Offset.TheVariants.{From, NotFound}
 use Rattle.text.specs.declared.LineSpan.{LineSpan}
 use Rattle.text.specs.Spans.{span_line, LineAt}
 use Rattle.text.proofs.LineLaws.{lines_end}
@@ -55,15 +54,15 @@ long (Station short) l p = omega (arith, eqb-true (length l.body) 73 (and_first 
 long (Head service) l p = omega (arith, eqb-true (length l.body) 9 (and_first (eqb (length l.body) 9) _ p))
 long Hash l p = begun l.body p
 
-pub within_more : (w : Want) (a b n : ℕ) (r : Offset) → a ≤ b → Within w b n r → Within w a n r
-within_more w a b n (From i) h p = (omega arith, p.1)
-within_more w a b n NotFound h p = tt
+pub within_more : (w : Want) (a b n : ℕ) (r : Option ℕ) → a ≤ b → Within w b n r → Within w a n r
+within_more w a b n (Some i) h p = (omega arith, p.1)
+within_more w a b n None h p = tt
 
-seek_none : (p : Line → Bool) (i : ℕ) → seek p i [] ≡ NotFound
+seek_none : (p : Line → Bool) (i : ℕ) → seek p i [] ≡ None
 unfolding seek
 seek_none p i = refl
 
-seek_one : (p : Line → Bool) (i : ℕ) (l : Line) (ls : List Line) → seek p i (l ∷ ls) ≡ cond (p l) (From i) (seek p (i + size l) ls)
+seek_one : (p : Line → Bool) (i : ℕ) (l : Line) (ls : List Line) → seek p i (l ∷ ls) ≡ cond (p l) (Some i) (seek p (i + size l) ls)
 unfolding seek
 seek_one p i l ls = refl
 
@@ -77,11 +76,11 @@ pub seeking_first : (w : Want) (t : List ℕ) (from : ℕ) → from ≤ length t
 seeking_first w t from h = record { low = omega arith; high = h; whole = refl }
 
 module _ (w : Want) (t : List ℕ) (from at : ℕ) (i : Seeking w t from at) where
-  pub seeking_end : length t ≤ at → Sought (seek (wants w) from (lines (drop from t))) w from (length t) NotFound
+  pub seeking_end : length t ≤ at → Sought (seek (wants w) from (lines (drop from t))) w from (length t) None
   seeking_end h = record { is = sym (i.whole ∙ rw (lines_end t at h, seek_none)); within = tt }
 
   module _ (s : LineSpan) (l : LineAt t at s) where
-    pub seeking_here : wants w (span_line t at s) ≡ true → Sought (seek (wants w) from (lines (drop from t))) w from (length t) (From at)
+    pub seeking_here : wants w (span_line t at s) ≡ true → Sought (seek (wants w) from (lines (drop from t))) w from (length t) (Some at)
     seeking_here p =
         let n : length (take (s.end - at) (drop at t)) ≤ s.end - at = rw length-take (omega arith) in
         record {
@@ -98,7 +97,7 @@ module _ (w : Want) (t : List ℕ) (from at : ℕ) (i : Seeking w t from at) whe
         }
 
 -- after a line
-after_none : (p : Line → Bool) (i : ℕ) → seek_after p i [] ≡ NotFound
+after_none : (p : Line → Bool) (i : ℕ) → seek_after p i [] ≡ None
 unfolding seek_after
 after_none p i = refl
 
@@ -107,10 +106,10 @@ unfolding seek_after
 after_one p i l ls = refl
 
 module _ (w : Want) (t : List ℕ) (from : ℕ) where
-  pub after_end : length t ≤ from → Sought (seek_after (wants w) from (lines (drop from t))) w from (length t) NotFound
+  pub after_end : length t ≤ from → Sought (seek_after (wants w) from (lines (drop from t))) w from (length t) None
   after_end h = record { is = sym (rw (lines_end t from h, after_none)); within = tt }
 
-  pub after_line : (s : LineSpan) → LineAt t from s → (r : Offset)
+  pub after_line : (s : LineSpan) → LineAt t from s → (r : Option ℕ)
       → Sought (seek (wants w) s.next (lines (drop s.next t))) w s.next (length t) r
       → Sought (seek_after (wants w) from (lines (drop from t))) w from (length t) r
   after_line s l r q =

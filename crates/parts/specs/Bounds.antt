@@ -1,7 +1,6 @@
 -- Parts of a text by their bounds.
-use Rattle.std.specs.Prelude.{ℕ, ◌-◌, ◌≤◌, List, length, take, drop}
+use Rattle.std.specs.Prelude.{ℕ, ◌-◌, ◌≤◌, List, length, take, drop, Err}
 use Rattle.iff.specs.declared.Reason.{Reason}
-use Rattle.iff.specs.declared.Test.TheVariants.{Fails}
 use Rattle.parts.specs.declared.Part.{Part}
 
 -- the part of a text from a byte on and before another
@@ -13,4 +12,4 @@ pub record Inside (t : List ℕ) (p : Part) : Type 0 where
   pub high : p.to ≤ length t
 
 abbrev pub no_part : Reason → Part
-no_part why = record { test = Fails why; from = 0; to = 0 }
+no_part why = record { test = Err why; from = 0; to = 0 }

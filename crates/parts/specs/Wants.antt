@@ -1,9 +1,7 @@
 -- Looking for a line in a text.
-use Rattle.std.specs.Prelude.{ℕ, ◌+◌, ◌≤◌, ◌≡◌, List, Bool}
+use Rattle.std.specs.Prelude.{ℕ, ◌+◌, ◌≤◌, ◌≡◌, List, Bool, None, Option, Some}
 use Rattle.iff.specs.Lines.{Line, is_hash}
 use Rattle.iff_desk.specs.Parts.{is_station, is_head}
-use Rattle.iff_desk.specs.declared.Offset.{Offset}
-use Rattle.iff_desk.specs.declared.Offset.TheVariants.{From, NotFound}
 use Rattle.parts.specs.declared.Want.{Want}
 use Rattle.parts.specs.declared.Want.TheVariants.{Station, Head, Hash}
 
@@ -23,11 +21,11 @@ least (Station short) = 73
 least (Head service) = 9
 least Hash = 1
 
-abbrev pub Within : Want → ℕ → ℕ → Offset → Type 0
-Within w from n (From i) = (from ≤ i) × (i + least w ≤ n)
-Within w from n NotFound = Unit
+abbrev pub Within : Want → ℕ → ℕ → Option ℕ → Type 0
+Within w from n (Some i) = (from ≤ i) × (i + least w ≤ n)
+Within w from n None = Unit
 
 -- what a search answers: the place by definition, and that such a line lies in the text there
-pub record Sought (place : Offset) (w : Want) (from n : ℕ) (r : Offset) : Type 0 where
+pub record Sought (place : Option ℕ) (w : Want) (from n : ℕ) (r : Option ℕ) : Type 0 where
   pub is : r ≡ place
   pub within : Within w from n r

@@ -8,7 +8,6 @@ ghost use Rattle.parts.specs.Wants.{bodied, wants, Sought};
 ghost use Rattle.parts.specs.Bounds.{no_part};
 
 use iff::{Reason, Test};
-use iff_desk::Offset;
 
 // The line that is looked for: a station's row, a service's first line, or any line beginning `#`.
 #[derive(Clone, Copy)]
@@ -29,7 +28,7 @@ pub struct Part {
 pub fn no_part(reason: Reason) -> Part
     ensures { result ≡ no_part reason }
 {
-    let test = Test::Fails(reason);
+    let test = Err(reason);
     Part {
         test: test,
         from: 0,
@@ -74,29 +73,30 @@ fn is_wanted(line: &[u8], want: Want) -> bool
 }
 
 // Where the first line begins that is wanted, of those from `from` on.
-pub fn seek(text: &[u8], from: usize, want: Want) -> Offset
+pub fn seek(text: &[u8], from: usize, want: Want) -> Option<usize>
     requires { from ≤ length text.now }
     ensures { Sought (seek_from (wants want) from (lines (drop from text.now))) want from (length text.now) result }
 {
     let mut at = from;
+    // A loop by hand: where the next line begins is known only once this one is read, so no range says it.
     while at < text.len() {
         let line = text::line_at(text, at);
         let end = line.end;
         if is_wanted(&text[at..end], want) {
-            return Offset::From(at);
+            return Some(at);
         }
         at = line.next;
     }
-    Offset::NotFound
+    None
 }
 
 // The same after the line at `from`.
-pub fn seek_after(text: &[u8], from: usize, want: Want) -> Offset
+pub fn seek_after(text: &[u8], from: usize, want: Want) -> Option<usize>
     requires { from ≤ length text.now }
     ensures { Sought (seek_after (wants want) from (lines (drop from text.now))) want from (length text.now) result }
 {
     if text.len() <= from {
-        return Offset::NotFound;
+        return None;
     }
     let line = text::line_at(text, from);
     seek(text, line.next, want)

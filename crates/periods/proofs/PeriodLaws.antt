@@ -1,4 +1,5 @@
 -- A zone's periods are the rows behind the first of its group. Assumes nothing.
+use Rattle.std.specs.Prelude.{None, Option}
 use Prim.Native.Nat.{ℕ, ◌+◌, ◌<◌}
 use mathlib.Core.Path.{◌≡◌}
 use mathlib.Core.List.{List}
@@ -8,8 +9,6 @@ use Rattle.iff.specs.Lists.{kept}
 use Rattle.iff.specs.Tables.{row_width, rows_in}
 use Rattle.iff.specs.declared.GroupFile.TheVariants.{Timezone}
 use Rattle.iff.specs.declared.File.TheVariants.{Groups}
-use Rattle.iff.specs.declared.RowOf.{RowOf}
-use Rattle.iff.specs.declared.RowOf.TheVariants.{NoRow}
 use Rattle.iff_desk.specs.Store.{period_of}
 use Rattle.keys.specs.Blocks.{rows_between}
 use Rattle.walks.proofs.GroupLaws.{between_none, between_first}
@@ -23,11 +22,11 @@ module _ (used : ℕ) (t : List ℕ) (zone day : ℕ) (p : Part) (g : GroupAt (G
   abbrev zone_width : ℕ
   zone_width = row_width (Groups Timezone)
 
-  pub period_none : p.from ≡ p.to → RowFor zone_width t (period_of (rows_in (Groups Timezone) t) zone day) NoRow
+  pub period_none : p.from ≡ p.to → RowFor zone_width t (period_of (rows_in (Groups Timezone) t) zone day) None
   unfolding period_of kept
   period_none e = row_for_none zone_width t _ (rw (g.is, between_none zone_width t p.from p.to (omega arith)))
 
-  pub period_in : (p.from ≡ p.to → ⊥) → (o : RowOf) → RowFor zone_width t (first_held day (rows_between zone_width t (p.from + 1) p.to)) o
+  pub period_in : (p.from ≡ p.to → ⊥) → (o : Option ℕ) → RowFor zone_width t (first_held day (rows_between zone_width t (p.from + 1) p.to)) o
       → RowFor zone_width t (period_of (rows_in (Groups Timezone) t) zone day) o
   unfolding period_of
   period_in n o h =

@@ -10,8 +10,6 @@ ghost use Rattle.keys.specs.Blocks.{rows_between};
 ghost use Rattle.store.specs.Found.{Stored, RowFor};
 ghost use Rattle.periods.specs.Held.{first_held};
 
-use iff::RowOf;
-
 // A period, row `i` of TIMEZONE, holds a day.
 fn holds_at(t: &[u64], i: usize, day: u64) -> bool
     requires { i * row_width (Groups Timezone) + row_width (Groups Timezone) ≤ length t.now }
@@ -19,10 +17,10 @@ fn holds_at(t: &[u64], i: usize, day: u64) -> bool
 {
     let first = tables::word_at(t, store::ZONE_WIDTH, i, iff::words::PERIOD_FIRST);
     let last = tables::word_at(t, store::ZONE_WIDTH, i, iff::words::PERIOD_LAST);
-    let iff::DayOf::Day(from) = calendar::day_of(first) else {
+    let Some(from) = calendar::day_of(first) else {
         return false;
     };
-    let iff::DayOf::Day(to) = calendar::day_of(last) else {
+    let Some(to) = calendar::day_of(last) else {
         return false;
     };
     if day < from {
@@ -32,22 +30,20 @@ fn holds_at(t: &[u64], i: usize, day: u64) -> bool
 }
 
 // The period among some rows of TIMEZONE.
-fn period_in(t: &[u64], from: usize, to: usize, day: u64) -> RowOf
+fn period_in(t: &[u64], from: usize, to: usize, day: u64) -> Option<usize>
     requires { to * row_width (Groups Timezone) ≤ length t.now }
     ensures { RowFor (row_width (Groups Timezone)) t.now (first_held day (rows_between (row_width (Groups Timezone)) t.now from to)) result }
 {
-    let mut i = from;
-    while i < to {
+    for i in from..to {
         if holds_at(t, i, day) {
-            return RowOf::Row(i);
+            return Some(i);
         }
-        i += 1;
     }
-    RowOf::NoRow
+    None
 }
 
 // The period of a zone that holds a day, by the day's number.
-pub fn find_period(t: &[u64], used: usize, places: &[u32], zone: u64, day: u64) -> RowOf
+pub fn find_period(t: &[u64], used: usize, places: &[u32], zone: u64, day: u64) -> Option<usize>
     requires { Stored (Groups Timezone) used t.now }
     ensures { RowFor (row_width (Groups Timezone)) t.now (period_of (rows_in (Groups Timezone) t.now) zone day) result }
 {
@@ -59,7 +55,7 @@ pub fn find_period(t: &[u64], used: usize, places: &[u32], zone: u64, day: u64) 
         zone,
     );
     if part.from == part.to {
-        return RowOf::NoRow;
+        return None;
     }
     period_in(t, part.from + 1, part.to, day)
 }

@@ -20,16 +20,14 @@ fn slot_of(places: &[u32], key: u64, stands: u32) -> Slot
     if slots <= keys::PROBES {
         return Slot::Nowhere;
     }
-    let mut at = keys::place_of(key, slots);
-    let end = at + keys::PROBES;
-    while at < end {
+    let first = keys::place_of(key, slots);
+    for at in first..first + keys::PROBES {
         if places[at] == 0 {
             return Slot::Free(at);
         }
         if places[at] == stands {
             return Slot::Of(at);
         }
-        at += 1;
     }
     Slot::Nowhere
 }
@@ -56,13 +54,11 @@ pub fn index_rows(file: iff::File, t: &[u64], used: usize, places: &mut [u32])
     let tag = keys::key_tag(file);
     let col = keys::key_word(file);
     let rows = keys::rows_among(t, w, used);
-    let mut i = 1;
-    while i < rows {
+    for i in 1..rows {
         if tables::word_at(t, w, i, iff::words::TAG) == tag {
             let key = tables::word_at(t, w, i, col);
             put(places, key, i as u64);
         }
-        i += 1;
     }
 }
 
@@ -98,6 +94,7 @@ pub fn index_asked(t: &[u64], used: usize, places: &mut [u32])
 {
     let rows = keys::rows_among(t, tables::BLOCK_WIDTH, used);
     let mut i = 1;
+    // A loop by hand: where the next block begins is known only from what stands in row `i`, so no range says it.
     while i < rows {
         let service = tables::word_at(t, tables::BLOCK_WIDTH, i, iff::words::NAMED);
         answer(places, service, i);

@@ -1,4 +1,5 @@
 -- Request W3: a rank by the desk's card is the sum of points that it was, so every change is answered as before. Assumes nothing.
+use Rattle.std.specs.Prelude.{Option}
 use Prim.Native.Nat.{ℕ, ◌+◌, ◌≤◌}
 use mathlib.Core.Path.{◌≡◌, refl, ap, ◌∙◌}
 use mathlib.Core.List.{List, [], ◌∷◌}
@@ -15,9 +16,9 @@ use Rattle.iff_desk.specs.Sound.{sound, rows_of_tables}
 use Rattle.iff_desk.specs.Card.{Pattern, pattern, card, alike, same_pattern, place_of, is_named}
 use Rattle.iff_desk.specs.Changing.{Side, from_keys, to_keys, pattern_of, rank, better, best, best_at, core_change, change_in, change}
 use Rattle.iff_desk.specs.declared.Riding.{Riding}
-use Rattle.iff_desk.specs.declared.Best.{Best}
 use Rattle.iff_desk.specs.declared.Call.{Call}
 use Rattle.question_laws.specs.Points.{explicit, rank_by_points, best_by_points, core_by_points, change_in_by_points, change_by_points}
+use Rattle.iff_desk.specs.declared.Best.{Best}
 
 -- EVERY PATTERN STANDS ON THE CARD
 -- a test of both Bools holds of each
@@ -120,7 +121,7 @@ unfolding rank
 rank_is_points from to = place_is_points (pattern_of from to) ∙ points_of_keys from to
 
 -- SO THE BEST ROW STAYS, AND EVERY CHANGE
-pub best_stays : (b : Best) (rs : List Row) → best b rs ≡ best_by_points b rs
+pub best_stays : (b : Option Best) (rs : List Row) → best b rs ≡ best_by_points b rs
 unfolding best best_by_points
 best_stays b [] = refl
 best_stays b (r ∷ rs) =

@@ -1,4 +1,5 @@
 -- Request W2: where one period covers the service day and the day of the time, stop times and changes are what they were. Assumes nothing.
+use Rattle.std.specs.Prelude.{None, Option, Some}
 use Prim.Native.Nat.{ℕ, ◌+◌, ◌/◌, ◌<◌}
 use mathlib.Core.Path.{◌≡◌, refl}
 use mathlib.Core.List.{List}
@@ -9,8 +10,6 @@ use Rattle.iff.specs.Files.{PerFile}
 use Rattle.iff.specs.Tables.{Row}
 use Rattle.iff.specs.Times.{minutes_of}
 use Rattle.iff.specs.Words.{named, station_zone}
-use Rattle.iff.specs.declared.MinutesOf.{MinutesOf}
-use Rattle.iff.specs.declared.MinutesOf.TheVariants.{Minutes, NoMinutes}
 use Rattle.iff_desk.specs.Sound.{sound, rows_of_tables}
 use Rattle.iff_desk.specs.Store.{no_row, service_rows, stop_at, station_row, day_on, number_on, is_there}
 use Rattle.iff_desk.specs.Stops.{arrival_of, departure_of, days_later, told_by, told_on, stop_times, stop_time, stop_time_in}
@@ -21,9 +20,9 @@ use Rattle.question_laws.specs.ServiceDay.{change_before, periods_of, OnePeriod}
 
 -- ONE TIME
 -- by a period that is there both rules tell it
-both_tell : (p : Row) (m : MinutesOf) → is_there p ≡ true → told_by p m ≡ told_only p m
-both_tell p (Minutes m) e = refl
-both_tell p NoMinutes e = rw e
+both_tell : (p : Row) (m : Option ℕ) → is_there p ≡ true → told_by p m ≡ told_only p m
+both_tell p (Some m) e = refl
+both_tell p None e = rw e
 
 module _ (T : PerFile (List ℕ)) (s : sound T ≡ true) (station number t : ℕ) (h : OnePeriod (rows_of_tables T) station number t) where
   abbrev zone : ℕ
@@ -40,7 +39,7 @@ module _ (T : PerFile (List ℕ)) (s : sound T ≡ true) (station number t : ℕ
       (both_tell (get_or (periods_of (rows_of_tables T) station) h.place no_row) (minutes_of t) (period_is_there T s zone h.place h.inside))
 
 -- a time before 24:00 stays whether or not there is a period
-pub same_day_stays : (R : PerFile (List Row)) (station number t m : ℕ) → minutes_of t ≡ Minutes m → m < 1440
+pub same_day_stays : (R : PerFile (List Row)) (station number t m : ℕ) → minutes_of t ≡ Some m → m < 1440
     → told_on R station number t ≡ told_before R station number t
 unfolding told_on told_before
 same_day_stays R station number t m e h =

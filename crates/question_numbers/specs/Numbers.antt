@@ -1,14 +1,13 @@
 -- The answers to the questions but a change in plain numbers.
-use Rattle.std.specs.Prelude.{ℕ, List, [], ◌∷◌, Bool, true, false, ℤ}
-use Rattle.iff.specs.Refusals.{number}
+use Rattle.std.specs.Prelude.{ℕ, List, [], ◌∷◌, Bool, true, false, ℤ, Result}
+use Rattle.iff.specs.Refusals.{number, Test}
 use Rattle.iff.specs.declared.Reason.TheVariants.{NotSound}
-use Rattle.iff.specs.declared.Test.{Test}
 use Rattle.iff_desk.specs.Answers.{part_number}
 use Rattle.iff_desk.specs.Answers.{running_number, running_shown}
 use Rattle.iff_desk.specs.Answers.{stop_time_number, station_shown, arrival_shown, departure_shown, local_shown, reference_shown}
-use Rattle.iff_desk.specs.declared.Running.{Running}
-use Rattle.iff_desk.specs.declared.StopTime.{StopTime}
 use Rattle.numbers.specs.Numbers.{is_shown, number_or0, minutes_or0}
+use Rattle.iff.specs.declared.Reason.{Reason}
+use Rattle.iff_desk.specs.declared.StopTimes.{StopTimes}
 
 -- SOUNDNESS: 0, or 16
 abbrev pub sound_number : Bool → ℕ
@@ -33,11 +32,11 @@ runs_number [] = 0
 runs_number (true ∷ bs) = 1
 runs_number (false ∷ bs) = 2
 
-abbrev pub running_words : Running → List ℕ
+abbrev pub running_words : Result Bool Reason → List ℕ
 running_words a = running_number a ∷ runs_number (running_shown a) ∷ []
 
 -- STOP TIME: four numbers: the refusal; the station; whether there is an arrival, whether a departure
-abbrev pub stop_time_words : StopTime → List ℕ
+abbrev pub stop_time_words : Result StopTimes Reason → List ℕ
 stop_time_words a =
     stop_time_number a
     ∷ number_or0 (station_shown a)
@@ -46,7 +45,7 @@ stop_time_words a =
     ∷ []
 
 -- and four of minutes: the arrival and the departure, each on the zone's clock and on the reference clock
-abbrev pub stop_time_minutes : StopTime → List ℤ
+abbrev pub stop_time_minutes : Result StopTimes Reason → List ℤ
 stop_time_minutes a =
     minutes_or0 (local_shown (arrival_shown a))
     ∷ minutes_or0 (reference_shown (arrival_shown a))

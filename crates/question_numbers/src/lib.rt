@@ -7,7 +7,6 @@ ghost use Rattle.numbers.specs.Numbers.{is_shown, minutes_or0};
 ghost use Rattle.question_numbers.specs.Numbers.{sound_number, part_words, lines_words, running_words, stop_time_words, stop_time_minutes};
 
 use iff::{Reason, Test};
-use iff_desk::{Running, StopTime, TimeOf};
 
 // SOUNDNESS
 
@@ -28,8 +27,8 @@ pub fn part_number(test: Test) -> u64
     ensures { result ≡ part_number test }
 {
     match test {
-        Test::Passes => 0,
-        Test::Fails(reason) => numbers::number_of(reason),
+        Ok(()) => 0,
+        Err(reason) => numbers::number_of(reason),
     }
 }
 
@@ -59,13 +58,13 @@ pub fn lines_words(test: Test, in_block: bool, from: usize, to: usize) -> [u64; 
 // RUNNING DAY
 
 // Two numbers: the refusal; 1 runs, 2 rests.
-pub fn running_words(answer: Running) -> [u64; 2]
+pub fn running_words(answer: Result<bool, iff::Reason>) -> [u64; 2]
     ensures { result ≡ running_words answer }
 {
     match answer {
-        Running::Runs => [0, 1],
-        Running::Rests => [0, 2],
-        Running::RunningRefused(reason) => {
+        Ok(true) => [0, 1],
+        Ok(false) => [0, 2],
+        Err(reason) => {
             let number = numbers::number_of(reason);
             [number, 0]
         }
@@ -75,48 +74,48 @@ pub fn running_words(answer: Running) -> [u64; 2]
 // STOP TIME
 
 // 1 where there is a time, 0 where there is none.
-fn is_there(time: TimeOf) -> u64
+fn is_there(time: Option<iff_desk::Moment>) -> u64
     ensures { result ≡ is_shown (local_shown time) }
 {
     match time {
-        TimeOf::At(_, _) => 1,
-        TimeOf::NoTime => 0,
+        Some(_) => 1,
+        None => 0,
     }
 }
 
 // Its minutes on the zone's clock, 0 where there is none.
-fn local_of(time: TimeOf) -> i32
+fn local_of(time: Option<iff_desk::Moment>) -> i32
     ensures { result ≡ minutes_or0 (local_shown time) }
 {
     match time {
-        TimeOf::At(local, _) => local.0,
-        TimeOf::NoTime => 0,
+        Some(moment) => moment.local.0,
+        None => 0,
     }
 }
 
 // And on the reference clock.
-fn reference_of(time: TimeOf) -> i32
+fn reference_of(time: Option<iff_desk::Moment>) -> i32
     ensures { result ≡ minutes_or0 (reference_shown time) }
 {
     match time {
-        TimeOf::At(_, reference) => reference.0,
-        TimeOf::NoTime => 0,
+        Some(moment) => moment.reference.0,
+        None => 0,
     }
 }
 
 // Four numbers: the refusal; the station; whether there is an arrival, and whether a departure.
-pub fn stop_time_words(answer: StopTime) -> [u64; 4]
+pub fn stop_time_words(answer: Result<iff_desk::StopTimes, iff::Reason>) -> [u64; 4]
     ensures { result ≡ stop_time_words answer }
 {
     match answer {
-        StopTime::Times(times) => {
+        Ok(times) => {
             let arrival = times.arrival;
             let departure = times.departure;
             let arrives = is_there(arrival);
             let departs = is_there(departure);
             [0, times.station, arrives, departs]
         }
-        StopTime::StopTimeRefused(reason) => {
+        Err(reason) => {
             let number = numbers::number_of(reason);
             [number, 0, 0, 0]
         }
@@ -124,11 +123,11 @@ pub fn stop_time_words(answer: StopTime) -> [u64; 4]
 }
 
 // Four of minutes: the arrival and the departure, each on the zone's clock and on the reference clock.
-pub fn stop_time_minutes(answer: StopTime) -> [i32; 4]
+pub fn stop_time_minutes(answer: Result<iff_desk::StopTimes, iff::Reason>) -> [i32; 4]
     ensures { result ≡ stop_time_minutes answer }
 {
     match answer {
-        StopTime::Times(times) => {
+        Ok(times) => {
             let arrival = times.arrival;
             let departure = times.departure;
             let arrives = local_of(arrival);
@@ -137,6 +136,6 @@ pub fn stop_time_minutes(answer: StopTime) -> [i32; 4]
             let departs_reference = reference_of(departure);
             [arrives, arrives_reference, departs, departs_reference]
         }
-        StopTime::StopTimeRefused(_) => [0, 0, 0, 0],
+        Err(_) => [0, 0, 0, 0],
     }
 }

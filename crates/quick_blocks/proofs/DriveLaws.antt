@@ -1,5 +1,6 @@
 -- Laws of lines whose rows are put one after the other: the lines left say what all lines were to say, and the rows left are put where all were to be
 -- put. Assumes nothing.
+use Rattle.std.specs.Prelude.{None, Ok, Option, Some}
 use Prim.Native.Nat.{ℕ, suc, ◌+◌, ◌*◌, ◌≤◌, ◌<◌}
 use mathlib.Core.Path.{◌≡◌, refl, ap, sym, ◌∙◌}
 use mathlib.Core.List.{List}
@@ -14,13 +15,9 @@ use Rattle.iff_rules.specs.Rows.{block_row, block_rows_from, Context}
 use Rattle.text.specs.Spans.{span_line}
 use Rattle.text.proofs.LineLaws.{lines_end, lines_step}
 use Rattle.tables.proofs.Put.{length_put}
-use Rattle.blocks.specs.declared.Turned.TheVariants.{On}
-use Rattle.block_lines.specs.declared.LineStep.TheVariants.{Leads}
 use Rattle.blocks.proofs.ReadLaws.{turns_at, Reading, starts, goes_on, ends}
 use Rattle.block_rows.proofs.RowLaws.{block_row_length}
 use Rattle.tables.proofs.Puts.{put_rows}
-use Rattle.quick_blocks.specs.declared.Ridden.{Ridden}
-use Rattle.quick_blocks.specs.declared.Ridden.TheVariants.{Lines, Stuck}
 use Rattle.quick_steps.specs.Steps.{w, Stepped}
 use Rattle.quick_blocks.specs.Drive.{beyond, Drivable, Drove}
 use Rattle.quick_blocks.proofs.PutLaws.{take_fewer, kept_before, kept_behind}
@@ -72,7 +69,7 @@ module _ (form : Form) (c : Context) (b : List ℕ) (n k row : ℕ) (was : List 
         }
 
     -- what the lines left do, all do
-    pub drove_on : (to : List ℕ) (r : Ridden) → Drove form c b n k row is at st done to r → Drove form c b n k row was from start before to r
+    pub drove_on : (to : List ℕ) (r : Option (ℕ × InBlock)) → Drove form c b n k row is at st done to r → Drove form c b n k row was from start before to r
     drove_on to r y =
         record {
           front =
@@ -85,22 +82,23 @@ module _ (form : Form) (c : Context) (b : List ℕ) (n k row : ℕ) (was : List 
         }
 
     -- nothing more is done
-    pub drove_stuck : (to : List ℕ) → to ≡ is → Drove form c b n k row was from start before to Stuck
+    pub drove_stuck : (to : List ℕ) → to ≡ is → Drove form c b n k row was from start before to None
     drove_stuck to e =
-        drove_on to Stuck
+        drove_on to None
         (rw e (record { front = refl; behind = refl; through = λ m end q. absurd (let z : ◌≡◌ {A = ℕ} 0 1 = cc in omega arith) }))
 
     -- no line is left
-    pub drove_end : length b ≤ at → Drove form c b n k row was from start before is (Lines done st)
+    pub drove_end : length b ≤ at → Drove form c b n k row was from start before is (Some (done, st))
     unfolding put_rows block_rows_from
     drove_end h =
-        drove_on is (Lines done st)
+        drove_on is (Some (done, st))
         (record {
           front = refl;
           behind = refl;
           through =
-              λ m end q. let e : done ≡ m = cc in
-              let f : st ≡ end = cc in
+              λ m end q. let both : ◌≡◌ {A = ℕ × InBlock} (done, st) (m, end) = cc in
+              let e : done ≡ m = ap (λ x. x.0) both in
+              let f : st ≡ end = ap (λ x. x.1) both in
               rw (← e, ← f)
               (record {
                 driven = sym (ends c true b at st done at st done (starts c true b at st done x.reading.here) h);
@@ -122,8 +120,8 @@ module _ (form : Form) (c : Context) (b : List ℕ) (n k row : ℕ) (was : List 
 
       read_on : Reading c true b from start before next after (done + 1)
       read_on =
-          goes_on c true b from start before at st done x.reading (On next after)
-          (turns_at c true b at st x.reading.here.few s.span s.line (Leads after) s.leads (On next after) (rw s.nexts))
+          goes_on c true b from start before at st done x.reading (Ok (next, after))
+          (turns_at c true b at st x.reading.here.few s.span s.line (Ok after) s.leads (Ok (next, after)) (rw s.nexts))
           next after refl
 
       counted_on : done + 1 + length (lines (drop next b)) ≡ before + length (lines (drop from b))

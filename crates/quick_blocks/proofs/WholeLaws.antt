@@ -1,4 +1,6 @@
 -- Laws of a whole block whose rows were put: they read back, they are those of the block, and it is whole. Assumes nothing.
+use Rattle.blocks.specs.declared.BlockSize.{BlockSize}
+use Rattle.std.specs.Prelude.{None, Option, Some}
 use Prim.Native.Nat.{ℕ, ◌+◌, ◌-◌, ◌*◌, ◌≤◌, ◌<◌}
 use mathlib.Core.Path.{◌≡◌, ap, sym, ◌∙◌}
 use mathlib.Core.List.{List}
@@ -23,17 +25,14 @@ use Rattle.legs.proofs.RowLaws.{block_lines_lem, stops_same}
 use Rattle.row_legs.specs.Blocks.{BlockOfStops}
 use Rattle.block_lines.specs.Lines.{keys_from}
 use Rattle.blocks.specs.Whole.{LinesRead, last_tests}
-use Rattle.blocks.specs.declared.Checked.TheVariants.{Whole}
 use Rattle.blocks.proofs.WholeLaws.{lines_read, last_checked}
 use Rattle.block_rows.proofs.RowLaws.{rows_used, rows_count}
 use Rattle.tables.proofs.Puts.{used_wide, put_rows, rows_put}
-use Rattle.quick_blocks.specs.declared.Ridden.{Ridden}
-use Rattle.quick_blocks.specs.declared.Ridden.TheVariants.{Lines}
-use Rattle.quick_blocks.specs.declared.Quickly.TheVariants.{Put, Left}
 use Rattle.quick_steps.specs.Steps.{w}
 use Rattle.quick_blocks.specs.Drive.{beyond, Drivable, Drove, LinesThrough}
-use Rattle.quick_blocks.specs.Whole.{WholeSeen, QuickPut}
+use Rattle.quick_blocks.specs.Whole.{WholeSeen, QuickPut, put_size}
 use Rattle.quick_blocks.proofs.PutLaws.{rows_back}
+use Rattle.blocks.specs.Drive.{size_of}
 
 count_is : (b : List ℕ) → 0 < length b → lines_in (as_block b) ≡ length (lines b)
 count_is b some = ap length (block_lines_lem b some)
@@ -52,7 +51,7 @@ module _ (form : Form) (b : List ℕ) (fresh : Bool) (counts : BlockCounts) (co 
   abbrev keys : Context
   keys = keys_from form counts co mo st fo
 
-  pub left_kept : is ≡ was → QuickPut form b fresh counts co mo st fo was is row Left
+  pub left_kept : is ≡ was → QuickPut form b fresh counts co mo st fo was is row None
   left_kept e =
       record {
         front = ap (take (row * w)) e;
@@ -60,7 +59,7 @@ module _ (form : Form) (b : List ℕ) (fresh : Bool) (counts : BlockCounts) (co 
         done = λ k n q. absurd (let z : ◌≡◌ {A = ℕ} 0 1 = cc in omega arith);
       }
 
-  module _ (some : 0 < length b) (n k : ℕ) (r : Ridden) (y : Drove form keys b n k row was 0 block_start 0 is r) where
+  module _ (some : 0 < length b) (n k : ℕ) (r : Option (ℕ × InBlock)) (y : Drove form keys b n k row was 0 block_start 0 is r) where
     front_kept : take (row * w) is ≡ take (row * w) was
     front_kept = rw add-zero at y.front
 
@@ -69,7 +68,7 @@ module _ (form : Form) (b : List ℕ) (fresh : Bool) (counts : BlockCounts) (co 
         let e : beyond b 0 0 row ≡ row + lines_in (as_block b) = omega (arith, count_is b some) in
         rw e at y.behind
 
-    pub left_driven : QuickPut form b fresh counts co mo st fo was is row Left
+    pub left_driven : QuickPut form b fresh counts co mo st fo was is row None
     left_driven =
         record {
           front = front_kept;
@@ -78,7 +77,7 @@ module _ (form : Form) (b : List ℕ) (fresh : Bool) (counts : BlockCounts) (co 
         }
 
     -- its lines are through
-    module _ (m : ℕ) (end : InBlock) (e : r ≡ Lines m end) (kept_length : length is ≡ length was)
+    module _ (m : ℕ) (end : InBlock) (e : r ≡ Some (m, end)) (kept_length : length is ≡ length was)
         (room : (row + lines_in (as_block b)) * w ≤ length was) where
       came : LinesThrough form keys b n k row was 0 block_start 0 is m end
       came = y.through m end e
@@ -122,23 +121,24 @@ module _ (form : Form) (b : List ℕ) (fresh : Bool) (counts : BlockCounts) (co 
         as_block_lem =
             rw (sym v.stops ∙ read.stops, sym v.lines ∙ read.counted, ← (block_lines_lem b some))
 
-        tests : Whole k n ≡ last_tests form b end m
+        tests : size_of k n ≡ last_tests form b end m
         unfolding last_tests
         tests =
             let l : legs reach_of (block_rows form (as_block b)) ≡ true = sym (ap (legs reach_of) (back ∙ as_block_lem)) ∙ v.right in
             rw (v.ends, l, v.lines, v.stops)
 
-        pub whole_put : fresh ≡ true → QuickPut form b fresh counts co mo st fo was is row (Put k n)
+        pub whole_put : fresh ≡ true → QuickPut form b fresh counts co mo st fo was is row (put_size k n)
         whole_put f =
             record {
               front = front_kept;
               behind = behind_kept;
               done =
-                  λ k' n' q. let g : k ≡ k' = cc in
-                  let h : n ≡ n' = cc in
+                  λ k' n' q. let z : ◌≡◌ {A = BlockSize} (record { lines = k; stops = n }) (record { lines = k'; stops = n' }) = cc in
+                  let g : k ≡ k' = ap (λ z. z.lines) z in
+                  let h : n ≡ n' = ap (λ z. z.stops) z in
                   rw (← g, ← h, f)
                   (record {
-                    checked = last_checked form true counts b co mo st fo some end m came.driven (Whole k n) tests;
+                    checked = last_checked form true counts b co mo st fo some end m came.driven (size_of k n) tests;
                     rows = put_all ∙ rows_put w rows (used_wide w rows used) was row inside ∙ rw (many, v.lines, as_block_lem);
                   });
             }

@@ -12,25 +12,11 @@ ghost use Rattle.row_legs.specs.Blocks.{BlockOfStops};
 ghost use Rattle.quick_blocks.specs.Drive.{Drivable, Drove};
 ghost use Rattle.quick_blocks.specs.Whole.{WholeSeen, QuickPut};
 
-// All lines' rows were put, so many, and the block stands so at its end; or nothing is said of it.
-#[derive(Clone, Copy)]
-pub enum Ridden {
-    Lines(usize, iff::InBlock),
-    Stuck,
-}
-
-// A block of so many lines and stops is right, and its rows are put; or it is left to others.
-#[derive(Clone, Copy)]
-pub enum Quickly {
-    Put(u64, u64),
-    Left,
-}
-
 // THE LINES OF A BLOCK
 
 // All lines from `from` on, before which `before` lines lead to `start`: their rows put behind the first `row` rows and those of the lines before.
 // A platform record is handed to the reader of platforms: so the two are called within each other once for each platform record, however many other
-// lines there are.
+// lines there are. How many lines' rows were put, and how the block stands at its end; or nothing is said of it.
 #[cycle(read_platform_read_stops)]
 fn read_stops(
     block: &[u8],
@@ -48,7 +34,7 @@ fn read_stops(
     stations: &[u64],
     footnotes: &[u64],
     places: &[u32],
-) -> Ridden
+) -> Option<(usize, iff::InBlock)>
     requires { Drivable block.now from before start row t.old }
     ensures { Drove form
         (keys_from form counts companies.now modes.now stations.now footnotes.now)
@@ -57,6 +43,7 @@ fn read_stops(
     let mut at = from;
     let mut done = before;
     let mut st = start;
+    // A loop by hand: how far a line goes is known only once its record was read, so no range says it.
     while at < block.len() {
         let number = done + 1;
         let letter = block[at];
@@ -84,17 +71,17 @@ fn read_stops(
             footnotes,
             places,
         ) {
-            quick_steps::LinePut::Unsure => {
-                return Ridden::Stuck;
+            None => {
+                return None;
             }
-            quick_steps::LinePut::Next(next, to) => {
+            Some((next, to)) => {
                 at = next;
                 done = number;
                 st = to;
             }
         }
     }
-    Ridden::Lines(done, st)
+    Some((done, st))
 }
 
 // One platform record, and then the stops again.
@@ -115,14 +102,14 @@ fn read_platform(
     stations: &[u64],
     footnotes: &[u64],
     places: &[u32],
-) -> Ridden
+) -> Option<(usize, iff::InBlock)>
     requires { (at < length block.now) × Drivable block.now at before st row t.old }
     ensures { Drove form
         (keys_from form counts companies.now modes.now stations.now footnotes.now)
         block.now n k row t.old at st before t.new result }
 {
     let number = before + 1;
-    match quick_steps::put_platform(
+    let (next, to) = quick_steps::put_platform(
         block[at],
         block,
         at,
@@ -139,13 +126,11 @@ fn read_platform(
         stations,
         footnotes,
         places,
-    ) {
-        quick_steps::LinePut::Unsure => Ridden::Stuck,
-        quick_steps::LinePut::Next(next, to) => read_stops(
-            block, next, number, form, to, n, k, t, row, counts, companies, modes, stations,
-            footnotes, places,
-        ),
-    }
+    )?;
+    read_stops(
+        block, next, number, form, to, n, k, t, row, counts, companies, modes, stations, footnotes,
+        places,
+    )
 }
 
 // A WHOLE BLOCK
@@ -170,7 +155,8 @@ fn is_whole(t: &[u64], row: usize, lines: usize, st: iff::InBlock, n: u64, k: u6
     row_legs::are_right(t, row, row + lines, stops)
 }
 
-// A block whose service is new, of k lines and n stops as it is thought, with its rows put behind the first `row` rows.
+// A block whose service is new, of k lines and n stops as it is thought, with its rows put behind the first `row` rows. Where it is right it is
+// told to be so; or it is left to others.
 pub fn put_block(
     block: &[u8],
     form: iff::Form,
@@ -185,28 +171,24 @@ pub fn put_block(
     places: &[u32],
     k: u64,
     n: u64,
-) -> Quickly
+) -> Option<blocks::BlockSize>
     requires { (0 < length block.now) × ((row + lines_in (as_block block.now)) * row_width Timetbls ≤ length t.old) }
     ensures { QuickPut form block.now fresh counts
         companies.now modes.now stations.now footnotes.now t.old t.new row result }
 {
     if !fresh {
-        return Quickly::Left;
+        return None;
     }
     let start = iff::InBlock {
         stand: iff::Stand::Start,
         stops: 0,
     };
-    match read_stops(
+    let (lines, st) = read_stops(
         block, 0, 0, form, start, n, k, t, row, counts, companies, modes, stations, footnotes,
         places,
-    ) {
-        Ridden::Stuck => Quickly::Left,
-        Ridden::Lines(lines, st) => {
-            if !is_whole(t, row, lines, st, n, k) {
-                return Quickly::Left;
-            }
-            Quickly::Put(k, n)
-        }
+    )?;
+    if !is_whole(t, row, lines, st, n, k) {
+        return None;
     }
+    Some(blocks::BlockSize { lines: k, stops: n })
 }

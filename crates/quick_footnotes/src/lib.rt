@@ -31,7 +31,7 @@ pub fn validity(
     let footnote = text::number(&line[1..6]);
     let first = stop_word(&line[7..10], n);
     let last = stop_word(&line[11..14], n);
-    let iff::RowOf::Row(_) = key_places::found_by_place(
+    let Some(_) = key_places::found_by_place(
         File::Groups(GroupFile::Footnote),
         footnotes,
         used,
@@ -74,7 +74,7 @@ pub fn attribute(
     let first = stop_word(&line[6..9], n);
     let last = stop_word(&line[10..13], n);
     let footnote = text::number(&line[14..19]);
-    let iff::RowOf::Row(_) = key_places::found_by_place(
+    let Some(_) = key_places::found_by_place(
         File::Groups(GroupFile::Footnote),
         footnotes,
         used,
@@ -111,7 +111,7 @@ pub fn platform(
     let end = at + 18;
     let line = &text[at..end];
     let footnote = text::number(&line[13..18]);
-    let iff::RowOf::Row(_) = key_places::found_by_place(
+    let Some(_) = key_places::found_by_place(
         File::Groups(GroupFile::Footnote),
         footnotes,
         used,

@@ -1,13 +1,14 @@
 -- Laws of a look at some columns: what is right is a column and a figure, and no CR, so that the first CR LF is the one behind them. Assumes nothing.
 use Prim.Native.Nat.{ℕ, suc, ◌+◌, ◌-◌, ◌≤◌, ◌<◌}
-use mathlib.Core.Path.{◌≡◌, refl, ◌∙◌}
+use mathlib.Core.Path.{◌≡◌, refl, ap, ◌∙◌}
 use mathlib.Core.List.{List, [], ◌∷◌}
-use mathlib.Core.Bool.{Bool, true, false, cond, false≢true}
+use mathlib.Core.Bool.{Bool, true, false, ◌&&◌, cond, false≢true}
 use native.Mathlib.Omega.{arith}
 use lib.Dec.{eqb, leb}
 use lib.ListN.{length, get_or, take, drop, length-drop}
 use lib.Seq.{get_or-drop, drop-drop}
 use borrow.Author.Tests.{eqb-true, ne_eqb, lt-ltb, leb-true, le-leb}
+use Rattle.std.specs.List.{list_all, zip}
 use Rattle.iff.specs.Bytes.{cr, comma, allowed, digit}
 use Rattle.iff.specs.Lists.{all2}
 use Rattle.iff.specs.Lines.{crlf, width}
@@ -66,6 +67,14 @@ all_counted [] (p ∷ pic) e = absurd (false≢true e)
 all_counted (b ∷ s) [] e = absurd (false≢true e)
 all_counted (b ∷ s) (p ∷ pic) e =
     rw ((both b p (and_left (right b p) _ e)).counted, all_counted s pic (and_right (right b p) _ e))
+
+-- all pairs of columns and marks
+pub all_pairs : (s pic : List ℕ) → length s ≡ length pic → list_all (λ (p : ℕ × ℕ). right p.0 p.1) (zip s pic) ≡ all2 right s pic
+unfolding all2
+all_pairs [] [] e = refl
+all_pairs [] (p ∷ pic) e = absurd (omega arith)
+all_pairs (b ∷ s) [] e = absurd (omega arith)
+all_pairs (b ∷ s) (p ∷ pic) e = ap (λ x. right b p && x) (all_pairs s pic (omega arith))
 
 -- the first CR LF stands behind bytes that are right
 first_end : (s pic : List ℕ) → all2 right (take (length pic) s) pic ≡ true → length pic < length s

@@ -30,15 +30,10 @@ fn are_right(columns: &[u8], picture: &[u8]) -> bool
     if columns.len() != picture.len() {
         return false;
     }
-    let mut columns_left = columns.len();
-    while 0 < columns_left {
-        let i = columns.len() - columns_left;
-        if !is_right(columns[i], picture[i]) {
-            return false;
-        }
-        columns_left -= 1;
-    }
-    true
+    columns
+        .iter()
+        .zip(picture)
+        .all(|(b, mark)| is_right(*b, *mark))
 }
 
 // CR LF stands at `i`.

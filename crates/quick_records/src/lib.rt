@@ -59,7 +59,7 @@ pub fn train_number(
     let number = text::number(&line[5..10]);
     let first = stop_word(&line[19..22], n);
     let last = stop_word(&line[23..26], n);
-    let iff::RowOf::Row(_) = key_places::found_by_place(
+    let Some(_) = key_places::found_by_place(
         File::Rows(RowFile::Company),
         companies,
         used,
@@ -101,7 +101,7 @@ pub fn transport(
     let mode = text::code(&line[1..5]);
     let first = stop_word(&line[6..9], n);
     let last = stop_word(&line[10..13], n);
-    let iff::RowOf::Row(_) = key_places::found_by_place(
+    let Some(_) = key_places::found_by_place(
         File::Rows(RowFile::Trnsmode),
         modes,
         used,

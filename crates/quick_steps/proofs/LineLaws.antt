@@ -1,4 +1,5 @@
 -- Laws of one line: what is told of it lets it through, and its row is the block's. Assumes nothing.
+use Rattle.std.specs.Prelude.{None, Option, Some}
 use Prim.Native.Nat.{ℕ, zero, suc, ◌+◌, ◌-◌, ◌<◌}
 use mathlib.Core.Path.{◌≡◌, refl, ap, sym, ◌∙◌}
 use mathlib.Core.List.{List, [], ◌∷◌}
@@ -12,7 +13,6 @@ use Rattle.iff.specs.Tables.{Row, is_hash_row, put_row}
 use Rattle.iff.specs.declared.Form.{Form}
 use Rattle.iff.specs.declared.File.TheVariants.{Timetbls}
 use Rattle.iff.specs.declared.Stand.{Stand}
-use Rattle.iff.specs.declared.Next.TheVariants.{Goes}
 use Rattle.iff.specs.declared.InBlock.{InBlock}
 use Rattle.iff_rules.specs.Order.{goes, is_stop}
 use Rattle.iff_rules.specs.Rows.{row_of, Context}
@@ -30,8 +30,6 @@ use Rattle.block_lines.proofs.StepLaws.{keys_agree, row_passes, let_through}
 use Rattle.quick_lines.specs.Pictures.{line_here}
 use Rattle.quick_words.specs.declared.Words.{Words}
 use Rattle.quick_words.specs.Told.{Seen}
-use Rattle.quick_steps.specs.declared.LinePut.{LinePut}
-use Rattle.quick_steps.specs.declared.LinePut.TheVariants.{Next, Unsure}
 use Rattle.quick_steps.specs.Steps.{w, Passing, WordsPut, LineTurn}
 
 any_fresh : (b : Bool) → cond b true true ≡ true
@@ -90,12 +88,12 @@ module _ (form : Form) (counts : BlockCounts) (co mo st fo b : List ℕ) (at x n
 
 -- WORDS that are not told are not put, and others are
 module _ (x : ℕ) (r : Words) (at : ℕ) (to : Stand) (stops j : ℕ) (was is : List ℕ) (i : ℕ) where
-  pub not_put : r.width ≡ 0 → is ≡ was → WordsPut x r at to stops j was is i Unsure
+  pub not_put : r.width ≡ 0 → is ≡ was → WordsPut x r at to stops j was is i None
   not_put e k = record { put = λ some. nothing r.width e some; next = λ some. nothing r.width e some; kept = λ z. k; unsure = λ z. refl }
 
   pub all_put : (r.width ≡ 0 → ⊥) → is ≡ put_row w was i (x ∷ r.one ∷ r.two ∷ r.three ∷ r.four ∷ 0 ∷ j ∷ [])
       → (more : ℕ) → more ≡ one (is_stop x)
-      → WordsPut x r at to stops j was is i (Next (at + r.width + 2) (record { stand = to; stops = stops + more }))
+      → WordsPut x r at to stops j was is i (Some ((at + r.width + 2), (record { stand = to; stops = stops + more })))
   all_put n e more m = record { put = λ some. e; next = λ some. rw m; kept = λ z. absurd (n z); unsure = λ z. absurd (n z) }
 
 -- A LINE THAT PASSES leads on
@@ -103,7 +101,7 @@ module _ (form : Form) (counts : BlockCounts) (co mo st fo b : List ℕ) (at : �
   abbrev keys : Context
   keys = keys_from form counts co mo st fo
 
-  pub unsure : is ≡ was → LineTurn form keys b at state n k j was is i Unsure
+  pub unsure : is ≡ was → LineTurn form keys b at state n k j was is i None
   unsure e = record { stepped = λ next to q. absurd (let z : ◌≡◌ {A = ℕ} 0 1 = cc in omega arith); kept = λ q. e }
 
   module _ (x : ℕ) (r : Words) (some : 0 < r.width) (p : Passing form counts co mo st fo b at x n k state.stops r) where
@@ -125,17 +123,18 @@ module _ (form : Form) (counts : BlockCounts) (co mo st fo b : List ℕ) (at : �
           head = p.seen.head ∙ ap (λ (l : Line). l ∷ lines (drop (at + r.width + 2) b)) (sym same_line);
         }
 
-    pub turned : (to : Stand) → goes state.stand x ≡ Goes to → (more : ℕ) → more ≡ one (is_stop x)
+    pub turned : (to : Stand) → goes state.stand x ≡ Some to → (more : ℕ) → more ≡ one (is_stop x)
         → is ≡ put_row w was i (x ∷ r.one ∷ r.two ∷ r.three ∷ r.four ∷ 0 ∷ j ∷ [])
         → LineTurn form keys b at state n k j was is i
-        (Next (at + r.width + 2) (record { stand = to; stops = state.stops + more }))
+        (Some ((at + r.width + 2), (record { stand = to; stops = state.stops + more })))
     turned to g more m e =
         let next : InBlock = record { stand = to; stops = state.stops + more } in
         let l = let_through keys true state (line_here b at r.width) x (sym p.seen.begins) p.seen.known to g p.passes next (rw m) in
         record {
           stepped =
-              λ at' to' q. let f : at + r.width + 2 ≡ at' = cc in
-              let h : next ≡ to' = cc in
+              λ at' to' q. let both : ◌≡◌ {A = ℕ × InBlock} (at + r.width + 2, next) (at', to') = cc in
+              let f : at + r.width + 2 ≡ at' = ap (λ x. x.0) both in
+              let h : next ≡ to' = ap (λ x. x.1) both in
               record {
                 span = there;
                 line = stands;
@@ -148,7 +147,7 @@ module _ (form : Form) (counts : BlockCounts) (co mo st fo b : List ℕ) (at : �
 
   -- words that were told, whose line goes on to `to`, or that were not told
   pub told_turn : (x : ℕ) (r : Words) → (0 < r.width → Passing form counts co mo st fo b at x n k state.stops r)
-      → (to : Stand) → goes state.stand x ≡ Goes to → (p : LinePut) → WordsPut x r at to state.stops j was is i p
+      → (to : Stand) → goes state.stand x ≡ Some to → (p : Option (ℕ × InBlock)) → WordsPut x r at to state.stops j was is i p
       → LineTurn form keys b at state n k j was is i p
   told_turn x r passes to g p q = go r.width refl
     where

@@ -1,4 +1,5 @@
 -- A letter's places in a block are those that the order says: by its letter, a line goes from two places at most. Assumes nothing.
+use Rattle.std.specs.Prelude.{None, Option, Some}
 use Prim.Native.Nat.{ℕ, ◌≤◌, ◌<◌}
 use mathlib.Core.Path.{◌≡◌, refl, ap, sym, ◌∙◌}
 use native.Mathlib.Omega.{arith}
@@ -6,8 +7,6 @@ use borrow.Author.Tests.{lt-ltb, le-ltb}
 use Rattle.iff.specs.Bytes.{hash, percent, dash, ampersand, asterisk, plus, dot, semicolon, less, greater}
 use Rattle.iff.specs.declared.Stand.{Stand}
 use Rattle.iff.specs.declared.Stand.TheVariants.{Start, Hash, Percent, Dash, Ampersand, Asterisk, Stop, Between, Last, LastPlatform}
-use Rattle.iff.specs.declared.Next.{Next}
-use Rattle.iff.specs.declared.Next.TheVariants.{Goes, NotHere}
 use Rattle.iff_rules.specs.Order.{goes}
 use Rattle.quick_steps.specs.Places.{place_in_block, goes_from}
 
@@ -71,23 +70,23 @@ less_goes = by_stand (λ s. goes s less ≡ goes_from (place_in_block s) 6 7 Las
 
 -- a line whose letter is known goes where its letter does
 pub goes_as : (x k first last : ℕ) (to : Stand) → GoesFrom k first last to → x ≡ k → (s : Stand) (p : ℕ) → p ≡ place_in_block s
-    → (r : Next) → r ≡ goes_from p first last to → (t : Stand) → r ≡ Goes t → goes s x ≡ Goes t
+    → (r : Option Stand) → r ≡ goes_from p first last to → (t : Stand) → r ≡ Some t → goes s x ≡ Some t
 goes_as x k first last to g e s p q r f t h = rw e (g s ∙ ap (λ (m : ℕ). goes_from m first last to) (sym q) ∙ sym f ∙ h)
 
 -- and one that is not here goes nowhere
-pub goes_nowhere : {A : Type 0} (t : Stand) → NotHere ≡ Goes t → A
+pub goes_nowhere : {A : Type 0} (t : Stand) → None ≡ Some t → A
 goes_nowhere t e = absurd (let z : ◌≡◌ {A = ℕ} 0 1 = cc in omega arith)
 
 -- THE TESTS of a place
 module _ (p first last : ℕ) (to : Stand) where
-  pub before_first : p < first → NotHere ≡ goes_from p first last to
+  pub before_first : p < first → None ≡ goes_from p first last to
   unfolding goes_from
   before_first h = rw (lt-ltb p first h)
 
-  pub behind_last : first ≤ p → last < p → NotHere ≡ goes_from p first last to
+  pub behind_last : first ≤ p → last < p → None ≡ goes_from p first last to
   unfolding goes_from
   behind_last g h = rw (le-ltb p first g, lt-ltb last p h)
 
-  pub in_its_place : first ≤ p → p ≤ last → Goes to ≡ goes_from p first last to
+  pub in_its_place : first ≤ p → p ≤ last → Some to ≡ goes_from p first last to
   unfolding goes_from
   in_its_place g h = rw (le-ltb p first g, le-ltb last p h)

@@ -1,9 +1,7 @@
 -- Where the lines of a block may stand, by how far the block has come.
-use Rattle.std.specs.Prelude.{ℕ, cond, ltb}
+use Rattle.std.specs.Prelude.{ℕ, cond, ltb, None, Option, Some}
 use Rattle.iff.specs.declared.Stand.{Stand}
 use Rattle.iff.specs.declared.Stand.TheVariants.{Start, Hash, Percent, Dash, Ampersand, Asterisk, Stop, Between, Last, LastPlatform}
-use Rattle.iff.specs.declared.Next.{Next}
-use Rattle.iff.specs.declared.Next.TheVariants.{Goes, NotHere}
 
 abbrev pub place_in_block : Stand → ℕ
 place_in_block Start = 0
@@ -18,5 +16,5 @@ place_in_block Last = 8
 place_in_block LastPlatform = 9
 
 -- a record that may stand from one place to another
-unfoldable pub goes_from : ℕ → ℕ → ℕ → Stand → Next
-goes_from place first last to = cond (ltb place first) NotHere (cond (ltb last place) NotHere (Goes to))
+unfoldable pub goes_from : ℕ → ℕ → ℕ → Stand → Option Stand
+goes_from place first last to = cond (ltb place first) None (cond (ltb last place) None (Some to))

@@ -1,24 +1,16 @@
 // One line of a TIMETBLS block that is read in one pass: told to be right where it stands, and its row put into the table at once.
 #![tactic(auto)]
 
-ghost use Rattle.std.specs.Prelude.{◌≡◌, ◌+◌, ◌*◌, ◌≤◌, ◌<◌, length, get_or};
+ghost use Rattle.std.specs.Prelude.{◌≡◌, ◌+◌, ◌*◌, ◌≤◌, ◌<◌, length, get_or, Some};
 ghost use Rattle.iff.specs.Tables.{row_width};
 ghost use Rattle.iff.specs.declared.File.TheVariants.{Timetbls};
 ghost use Rattle.iff.specs.declared.Stand.{Stand};
-ghost use Rattle.iff.specs.declared.Next.TheVariants.{Goes};
 ghost use Rattle.iff_rules.specs.Meaning.{most_stops};
 ghost use Rattle.iff_rules.specs.Order.{is_stop, goes};
 ghost use Rattle.iff_rules.specs.Legs.{one};
 ghost use Rattle.block_lines.specs.Lines.{keys_from};
 ghost use Rattle.quick_steps.specs.Places.{place_in_block, goes_from};
 ghost use Rattle.quick_steps.specs.Steps.{Passing, WordsPut, LineTurn};
-
-// A line's row was put, and the next line begins there with the block standing so; or nothing is said of it.
-#[derive(Clone, Copy)]
-pub enum LinePut {
-    Next(usize, iff::InBlock),
-    Unsure,
-}
 
 // 1 for a stop.
 fn stop_for(letter: u8) -> u64
@@ -48,20 +40,20 @@ fn place_in_block(stand: iff::Stand) -> u64
 }
 
 // A record that may stand from one place to another.
-fn goes_from(place: u64, first: u64, last: u64, to: iff::Stand) -> iff::Next
+fn goes_from(place: u64, first: u64, last: u64, to: iff::Stand) -> Option<iff::Stand>
     ensures { result ≡ goes_from place first last to }
 {
     if place < first {
-        return iff::Next::NotHere;
+        return None;
     }
     if last < place {
-        return iff::Next::NotHere;
+        return None;
     }
-    iff::Next::Goes(to)
+    Some(to)
 }
 
-fn goes_on(stand: iff::Stand, letter: u8) -> iff::Next
-    ensures { (to : Stand) → result ≡ Goes to → goes stand letter ≡ Goes to }
+fn goes_on(stand: iff::Stand, letter: u8) -> Option<iff::Stand>
+    ensures { (to : Stand) → result ≡ Some to → goes stand letter ≡ Some to }
 {
     let place = place_in_block(stand);
     match letter {
@@ -75,7 +67,7 @@ fn goes_on(stand: iff::Stand, letter: u8) -> iff::Next
         b'+' => goes_from(place, 6, 7, iff::Stand::Stop),
         b';' => goes_from(place, 6, 7, iff::Stand::Between),
         b'<' => goes_from(place, 6, 7, iff::Stand::Last),
-        _ => iff::Next::NotHere,
+        _ => None,
     }
 }
 
@@ -129,28 +121,29 @@ fn put_words(
     number: u64,
     t: &mut [u64],
     i: usize,
-) -> LinePut
+) -> Option<(usize, iff::InBlock)>
     requires { (0 < w.width → at + w.width + 2 < 18446744073709551616) × (stops ≤ most_stops)
         × (i * row_width Timetbls + row_width Timetbls ≤ length t.old) }
     ensures { WordsPut letter w at to stops number t.old t.new i result }
 {
     if w.width == 0 {
-        return LinePut::Unsure;
+        return None;
     }
     let row = [letter as u64, w.one, w.two, w.three, w.four, 0, number];
     table_writes::put_row(t, tables::BLOCK_WIDTH, i, &row);
     let next = at + w.width + 2;
     let after = stops + stop_for(letter);
-    LinePut::Next(
+    Some((
         next,
         iff::InBlock {
             stand: to,
             stops: after,
         },
-    )
+    ))
 }
 
-// The line at `at`, which is line `number` and no platform record: its row put as row `i`.
+// The line at `at`, which is line `number` and no platform record: its row put as row `i`. Where the next line begins, and how the block stands
+// there; or nothing is said of this line.
 pub fn put_line(
     letter: u8,
     block: &[u8],
@@ -168,7 +161,7 @@ pub fn put_line(
     stations: &[u64],
     footnotes: &[u64],
     places: &[u32],
-) -> LinePut
+) -> Option<(usize, iff::InBlock)>
     requires { (at < length block.now) × (letter ≡ get_or block.now at 0) × (st.stops ≤ most_stops)
         × (i * row_width Timetbls + row_width Timetbls ≤ length t.old) }
     ensures { LineTurn form
@@ -177,9 +170,7 @@ pub fn put_line(
 {
     let stand = st.stand;
     let stops = st.stops;
-    let iff::Next::Goes(to) = goes_on(stand, letter) else {
-        return LinePut::Unsure;
-    };
+    let to = goes_on(stand, letter)?;
     let w = tested_words(
         letter, block, at, form, stops, n, k, counts, companies, modes, stations, footnotes, places,
     );
@@ -204,7 +195,7 @@ pub fn put_platform(
     stations: &[u64],
     footnotes: &[u64],
     places: &[u32],
-) -> LinePut
+) -> Option<(usize, iff::InBlock)>
     requires { (at < length block.now) × (letter ≡ get_or block.now at 0) × (st.stops ≤ most_stops)
         × (i * row_width Timetbls + row_width Timetbls ≤ length t.old) }
     ensures { LineTurn form
@@ -212,13 +203,11 @@ pub fn put_platform(
         block.now at st n k number t.old t.new i result }
 {
     if letter != b'?' {
-        return LinePut::Unsure;
+        return None;
     }
     let stand = st.stand;
     let stops = st.stops;
-    let iff::Next::Goes(to) = order::goes(stand, letter) else {
-        return LinePut::Unsure;
-    };
+    let to = order::goes(stand, letter)?;
     let w = quick_footnotes::platform(block, at, n, counts.footnotes, footnotes, places);
     put_words(letter, w, at, to, stops, number, t, i)
 }

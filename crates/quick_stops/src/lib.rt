@@ -42,7 +42,7 @@ pub fn plain_stop(
     if !clock::is_time(time) {
         return untold();
     }
-    let iff::RowOf::Row(_) = key_places::found_by_place(
+    let Some(_) = key_places::found_by_place(
         File::Rows(RowFile::Stations),
         stations,
         used,
@@ -91,7 +91,7 @@ pub fn interval(
     if !clock::is_interval(arrival, departure) {
         return untold();
     }
-    let iff::RowOf::Row(_) = key_places::found_by_place(
+    let Some(_) = key_places::found_by_place(
         File::Rows(RowFile::Stations),
         stations,
         used,
@@ -131,7 +131,7 @@ pub fn passed(
         return untold();
     }
     let station = text::code(&line[1..8]);
-    let iff::RowOf::Row(_) = key_places::found_by_place(
+    let Some(_) = key_places::found_by_place(
         File::Rows(RowFile::Stations),
         stations,
         used,

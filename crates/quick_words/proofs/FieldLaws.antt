@@ -1,4 +1,5 @@
 -- Laws of records that are told by their fields: one for each record, over the columns from `at` up to `end`; and of what they name. Assumes nothing.
+use Rattle.std.specs.Prelude.{None, Option, Some}
 use Prim.Native.Nat.{ℕ, ◌+◌, ◌-◌, ◌<◌}
 use mathlib.Core.Path.{◌≡◌, refl, sym, ◌∙◌}
 use mathlib.Core.List.{List, [], ◌∷◌}
@@ -13,10 +14,8 @@ use Rattle.iff.specs.Columns.{stop_fields, interval_fields, passed_fields, platf
 use Rattle.iff.specs.Values.{number_of, code_of, all_blank, stop_of, field_right, field_words, words}
 use Rattle.iff.specs.Tables.{padded}
 use Rattle.iff.specs.declared.File.{File}
-use Rattle.iff.specs.declared.RowOf.{RowOf}
-use Rattle.iff.specs.declared.RowOf.TheVariants.{Row as RowIs, NoRow}
 use Rattle.iff_rules.specs.Meaning.{most_stops}
-use Rattle.tables.proofs.First.{found}
+use Rattle.std.specs.Option.{is_some}
 use Rattle.keys.specs.Lookup.{keys_among, HitRow}
 use Rattle.keys.proofs.Among.{key_named}
 use Rattle.quick_lines.specs.Pictures.{Pictured}
@@ -27,9 +26,9 @@ pub nothing : {A : Type 0} (w : ℕ) → w ≡ 0 → 0 < w → A
 nothing w e h = absurd (omega arith)
 
 -- a row that a search hit names its key
-pub there : (f : File) (used : ℕ) (t : List ℕ) (key : ℕ) (r : RowOf) → HitRow f used t key r → found r ≡ true → has key (keys_among f used t) ≡ true
-there f used t key (RowIs i) h e = key_named f used t key i (h.found i refl)
-there f used t key NoRow h e = absurd (false≢true e)
+pub there : (f : File) (used : ℕ) (t : List ℕ) (key : ℕ) (r : Option ℕ) → HitRow f used t key r → is_some r ≡ true → has key (keys_among f used t) ≡ true
+there f used t key (Some i) h e = key_named f used t key i (h.found i refl)
+there f used t key None h e = absurd (false≢true e)
 
 -- a stop that is not one too many, and a test of its times
 pub in_time : (stops : ℕ) (b m : Bool) → stops < most_stops → b ≡ m → b ≡ true → (ltb stops most_stops && m) ≡ true

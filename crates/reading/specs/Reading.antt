@@ -1,7 +1,7 @@
 -- What the readers of files ask and tell: a first line, the rows after it, a whole file.
-use Rattle.std.specs.Prelude.{ℕ, suc, ◌*◌, ◌/◌, ◌≤◌, ◌≡◌, List, [], ◌∷◌, Bool, true, false, eqb, length, get_or, drop, replicate}
+use Rattle.std.specs.Prelude.{ℕ, suc, ◌*◌, ◌/◌, ◌≤◌, ◌≡◌, List, [], ◌∷◌, Bool, true, false, eqb, length, get_or, drop, replicate, Err, Ok, Result}
 use Rattle.iff.specs.Lists.{same}
-use Rattle.iff.specs.Refusals.{or_else, fine}
+use Rattle.iff.specs.Refusals.{or_else, fine, Test, Verdict, fault_at}
 use Rattle.iff.specs.Lines.{Line, lines, no_line}
 use Rattle.iff.specs.Columns.{first_fields, picture, fits, form424}
 use Rattle.iff.specs.Values.{readable}
@@ -9,16 +9,10 @@ use Rattle.iff.specs.Tables.{Row, tag, row_width, fill, key_tag, keys_of, rising
 use Rattle.iff.specs.declared.File.{File}
 use Rattle.iff.specs.declared.File.TheVariants.{Delivery}
 use Rattle.iff.specs.declared.Form.{Form}
-use Rattle.iff.specs.declared.Test.{Test}
-use Rattle.iff.specs.declared.Test.TheVariants.{Passes, Fails}
-use Rattle.iff.specs.declared.Verdict.{Verdict}
-use Rattle.iff.specs.declared.Verdict.TheVariants.{Fine, Fault}
 use Rattle.iff_rules.specs.Rows.{first_row_of, rows_of_lines, Context}
 use Rattle.iff_rules.specs.Load.{first_line_test, delivery_verdict, file_verdict}
-use Rattle.reading.specs.declared.Begin.{Begin}
-use Rattle.reading.specs.declared.Begin.TheVariants.{Rest, Broken}
-use Rattle.reading.specs.declared.RowsRead.{RowsRead}
-use Rattle.reading.specs.declared.RowsRead.TheVariants.{AllRead, Stopped}
+use Rattle.iff.specs.declared.Fault.{Fault}
+use Rattle.iff.specs.declared.Reason.{Reason}
 
 -- BEFORE A FILE IS READ: its table is all zero, and has room for its lines
 pub record Ready (f : File) (text t : List ℕ) : Type 0 where
@@ -40,9 +34,9 @@ abbrev pub head_line : List ℕ → Line
 head_line text = get_or (lines text) 0 no_line
 
 -- A FIRST LINE: its tests, and its row with the lines after it
-abbrev pub begin_test : Begin → Test
-begin_test (Rest from) = Passes
-begin_test (Broken r) = Fails r
+abbrev pub begin_test : Result ℕ Reason → Test
+begin_test (Ok from) = Ok tt
+begin_test (Err r) = Err r
 
 -- a table that holds one first row, and has room for some lines more
 pub record Begun (f : File) (more : ℕ) (first : Row) (t : List ℕ) : Type 0 where
@@ -58,26 +52,26 @@ pub record Split (f : File) (text t : List ℕ) (l : Line) (from : ℕ) : Type 0
   pub all : lines text ≡ l ∷ lines (drop from text)
   pub begun : Begun f (length (lines (drop from text))) (first_row_of f true l) t
 
-pub record FirstRead (f : File) (header text was is : List ℕ) (l : Line) (r : Begin) : Type 0 where
+pub record FirstRead (f : File) (header text was is : List ℕ) (l : Line) (r : Result ℕ Reason) : Type 0 where
   pub test : begin_test r ≡ first_line_test (same l.body header) l
-  pub rest : (from : ℕ) → r ≡ Rest from → Split f text is l from
+  pub rest : (from : ℕ) → r ≡ Ok from → Split f text is l from
   pub kept : length is ≡ length was
 
 -- THE ROWS AFTER IT
-abbrev pub rows_verdict : RowsRead → Verdict
-rows_verdict (AllRead rises) = Fine
-rows_verdict (Stopped r p) = Fault r p
+abbrev pub rows_verdict : Result Bool Fault → Verdict
+rows_verdict (Ok rises) = Ok tt
+rows_verdict (Err fault) = fault_at fault.reason fault.place
 
-abbrev pub rises_of : RowsRead → Bool
-rises_of (AllRead rises) = rises
-rises_of (Stopped r p) = false
+abbrev pub rises_of : Result Bool Fault → Bool
+rises_of (Ok rises) = rises
+rises_of (Err fault) = false
 
 -- the verdict for every context of that form that agrees with the tables that were looked into; the rows behind the first; whether their keys rise
 pub record RowsDone (f : File) (form : Form) (Agree : Context → Type 0) (due : Context → Verdict) (first : Row) (rows : List Row) (was is : List ℕ)
-    (r : RowsRead) : Type 0 where
+    (r : Result Bool Fault) : Type 0 where
   pub verdict : (c : Context) → c.form ≡ form → Agree c → rows_verdict r ≡ due c
-  pub table : rows_verdict r ≡ Fine → is ≡ fill (row_width f) (length was) (first ∷ rows)
-  pub rises : rows_verdict r ≡ Fine → rises_of r ≡ rising (keys_of f rows)
+  pub table : rows_verdict r ≡ Ok tt → is ≡ fill (row_width f) (length was) (first ∷ rows)
+  pub rises : rows_verdict r ≡ Ok tt → rises_of r ≡ rising (keys_of f rows)
   pub kept : length is ≡ length was
 
 -- A WHOLE FILE, after a verdict on what came before it

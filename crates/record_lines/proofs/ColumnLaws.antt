@@ -55,9 +55,6 @@ pub record Testing (s : List ℕ) (first end j : ℕ) : Type 0 where
   pub whole : right_in s (slice first end fields) ≡ right_in s (slice j end fields)
   pub all_inside : all (is_inside (length s)) (slice j end fields) ≡ true
 
-pub test_begin : (s : List ℕ) (first end : ℕ) → Entries first end s → Testing s first end first
-test_begin s first end p = record { in_turn = p.in_turn; whole = refl; all_inside = p.all_inside }
-
 module _ (s : List ℕ) (first end j : ℕ) where
   right_step : j < end → end ≤ 51
       → right_in s (slice j end fields) ≡ (field_right (field_at j).class (columns s (field_at j)) && right_in s (slice (j + 1) end fields))
@@ -90,7 +87,6 @@ module _ (s : List ℕ) (first end j : ℕ) where
 pub record Putting (tag n : ℕ) (s : List ℕ) (first end : ℕ) (t₀ t : List ℕ) (k j : ℕ) : Type 0 where
   pub in_turn : j ≤ end
   pub room : k + (end - j) ≤ length t
-  pub small : k ≤ j + 1
   pub kept : length t ≡ length t₀
   pub all_inside : all (is_inside (length s)) (slice j end fields) ≡ true
   pub left : drop k (tag ∷ words n s (slice first end fields)) ≡ words n s (slice j end fields)
@@ -104,7 +100,6 @@ put_begin tag n s first end m t p h e =
     record {
       in_turn = p.in_turn;
       room = omega arith;
-      small = omega arith;
       kept = refl;
       all_inside = p.all_inside;
       left = refl;
@@ -123,7 +118,6 @@ module _ (tag n : ℕ) (s : List ℕ) (first end : ℕ) (t₀ : List ℕ) where
         record {
           in_turn = omega arith;
           room = rw length-set (omega arith);
-          small = omega arith;
           kept = rw length-set l.kept;
           all_inside = all_next (is_inside (length s)) j end h b l.all_inside;
           left = put_rest (length t₀) _ k v _ d;

@@ -1,2 +1,3 @@
+mod AllLaws
 mod ColumnLaws
 mod LineLaws

@@ -1,4 +1,5 @@
 -- Laws of one line of one record, by whether the record is the vector or has fixed columns. Assumes nothing.
+use Rattle.std.specs.Prelude.{Err, Ok}
 use Prim.Native.Nat.{ℕ, suc, ◌-◌, ◌≤◌, ◌<◌}
 use mathlib.Core.Path.{◌≡◌, refl, ap, sym, ◌∙◌}
 use mathlib.Core.List.{List, ◌∷◌}
@@ -9,7 +10,7 @@ use lib.Seq.{slice}
 use Rattle.text.proofs.PictureLaws.{and_right}
 use Rattle.iff.specs.Bytes.{zero_or_one}
 use Rattle.iff.specs.Lists.{all}
-use Rattle.iff.specs.Refusals.{unless}
+use Rattle.iff.specs.Refusals.{unless, Test}
 use Rattle.iff.specs.Columns.{Field, fits, picture, laid, record_fields}
 use Rattle.iff.specs.Values.{readable, words, word_count, vector_words, vector_width}
 use Rattle.iff.specs.Tables.{padded}
@@ -18,8 +19,6 @@ use Rattle.iff.specs.declared.Record.{Record}
 use Rattle.iff.specs.declared.Record.TheVariants.{FootnoteVector}
 use Rattle.iff.specs.declared.Reason.{Reason}
 use Rattle.iff.specs.declared.Reason.TheVariants.{Layout, Value}
-use Rattle.iff.specs.declared.Test.{Test}
-use Rattle.iff.specs.declared.Test.TheVariants.{Passes, Fails}
 use Rattle.records.specs.declared.Spans.{Spans}
 use Rattle.records.specs.declared.Looks.{Looks}
 use Rattle.records.specs.Layouts.{line_of, pictures, fields, spans_of, right_in, picture_in, readable_in, in_order, layout_test}
@@ -92,11 +91,11 @@ module _ (form : Form) (r : Record) (s : Spans) (e : s ≡ spans_of r) (body : L
 
 -- THE TESTS OF FIXED COLUMNS, in order
 module _ (s : Spans) (body : List ℕ) (l : Looks) (k : LooksBy body (picture_in s) l) where
-  pub unfit : l.0 ≡ false → Fails Layout ≡ in_order (fits body (picture_in s)) (readable_in s body)
+  pub unfit : l.0 ≡ false → Err Layout ≡ in_order (fits body (picture_in s)) (readable_in s body)
   unfit f = rw (← k.fitting, f)
 
   module _ (f : l.0 ≡ true) where
-    pub unfigured : l.1 ≡ false → Fails Value ≡ in_order (fits body (picture_in s)) (readable_in s body)
+    pub unfigured : l.1 ≡ false → Err Value ≡ in_order (fits body (picture_in s)) (readable_in s body)
     unfolding readable_in
     unfigured g = rw (← k.fitting, f, ← k.figured, g)
 
@@ -111,28 +110,28 @@ module _ (body : List ℕ) (fs : List Field) (f : fits body (picture fs) ≡ tru
   by_value : t ≡ unless (readable body fs) Value
   by_value = e ∙ rw f
 
-  pub read_passes : t ≡ Passes → true ≡ readable body fs
+  pub read_passes : t ≡ Ok tt → true ≡ readable body fs
   read_passes p = go (readable body fs) (sym p ∙ by_value)
     where
-      go : (b : Bool) → Passes ≡ unless b Value → true ≡ b
+      go : (b : Bool) → Ok tt ≡ unless b Value → true ≡ b
       go true q = refl
       go false q = absurd (let z : ◌≡◌ {A = ℕ} 0 1 = cc in omega arith)
 
-  pub read_fails : (why : Reason) → t ≡ Fails why → false ≡ readable body fs
+  pub read_fails : (why : Reason) → t ≡ Err why → false ≡ readable body fs
   read_fails why p = go (readable body fs) (sym p ∙ by_value)
     where
-      go : (b : Bool) → Fails why ≡ unless b Value → false ≡ b
+      go : (b : Bool) → Err why ≡ unless b Value → false ≡ b
       go true q = absurd (let z : ◌≡◌ {A = ℕ} 0 1 = cc in omega arith)
       go false q = refl
 
 -- FOR CALLERS: a line that passes layout and value can be put
 pub layout_passes : (form : Form) (r : Record) (body : List ℕ) (ended : Bool)
-    → Passes ≡ layout_test (line_of body ended) (record_fields form r)
+    → Ok tt ≡ layout_test (line_of body ended) (record_fields form r)
     → (room : ℕ) → suc (word_count (record_fields form r)) ≤ room → Legible form r body room
 layout_passes form r body ended q room h = go (laid (line_of body ended) (record_fields form r)) (readable body (record_fields form r)) refl refl q
   where
     go : (a b : Bool) → laid (line_of body ended) (record_fields form r) ≡ a → readable body (record_fields form r) ≡ b
-        → Passes ≡ in_order a b → Legible form r body room
+        → Ok tt ≡ in_order a b → Legible form r body room
     go true true x y q' = record { fitting = and_right ended _ x; reading = y; roomy = h }
     go true false x y q' = absurd (let z : ◌≡◌ {A = ℕ} 0 1 = cc in omega arith)
     go false b x y q' = absurd (let z : ◌≡◌ {A = ℕ} 0 1 = cc in omega arith)

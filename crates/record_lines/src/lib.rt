@@ -23,14 +23,7 @@ fn fits_days(line: &[u8], days: usize) -> bool
     if line.len() != days {
         return false;
     }
-    let mut i: usize = 0;
-    while i < line.len() {
-        if !text::is_allowed(line[i]) {
-            return false;
-        }
-        i += 1;
-    }
-    true
+    line.iter().all(|b| text::is_allowed(*b))
 }
 
 // A record's length, its commas, allowed bytes, and CR LF.
@@ -56,14 +49,7 @@ pub fn is_laid(record: iff::Record, form: iff::Form, line: &[u8], ended: bool) -
 fn all_marks(line: &[u8]) -> bool
     ensures { result ≡ all zero_or_one line.now }
 {
-    let mut marks: usize = 0;
-    while marks < line.len() {
-        if !text::is_mark(line[marks]) {
-            return false;
-        }
-        marks += 1;
-    }
-    true
+    line.iter().all(|b| text::is_mark(*b))
 }
 
 // Digits or the wildcard.
@@ -101,12 +87,10 @@ fn are_fields_right(line: &[u8], first: usize, end: usize) -> bool
     requires { Entries first end line.now }
     ensures { result ≡ right_in line.now (slice first end fields) }
 {
-    let mut j = first;
-    while j < end {
+    for j in first..end {
         if !is_field_right(line, j) {
             return false;
         }
-        j += 1;
     }
     true
 }
@@ -118,12 +102,12 @@ fn vector_layout(line: &[u8], days: usize) -> iff::Test
     ensures { result ≡ in_order (fits line.now (replicate days 109)) (all zero_or_one line.now) }
 {
     if !fits_days(line, days) {
-        return iff::Test::Fails(iff::Reason::Layout);
+        return Err(iff::Reason::Layout);
     }
     if !all_marks(line) {
-        return iff::Test::Fails(iff::Reason::Value);
+        return Err(iff::Reason::Value);
     }
-    iff::Test::Passes
+    Ok(())
 }
 
 // Those of a record of fixed columns.
@@ -135,17 +119,17 @@ fn fixed_layout(line: &[u8], s: Spans) -> iff::Test
     let to = s.1;
     let looks = records::looks_in(line, from, to);
     if !looks.0 {
-        return iff::Test::Fails(iff::Reason::Layout);
+        return Err(iff::Reason::Layout);
     }
     if !looks.1 {
-        return iff::Test::Fails(iff::Reason::Value);
+        return Err(iff::Reason::Value);
     }
     let first = s.2;
     let end = s.3;
     if !are_fields_right(line, first, end) {
-        return iff::Test::Fails(iff::Reason::Value);
+        return Err(iff::Reason::Value);
     }
-    iff::Test::Passes
+    Ok(())
 }
 
 // Those of any record.
@@ -153,7 +137,7 @@ pub fn line_layout(record: iff::Record, form: iff::Form, line: &[u8], ended: boo
     ensures { result ≡ layout_test (line_of line.now ended) (record_fields form «record») }
 {
     if !ended {
-        return iff::Test::Fails(iff::Reason::Layout);
+        return Err(iff::Reason::Layout);
     }
     let s = records::spans_of(record);
     let to = s.1;
@@ -169,8 +153,8 @@ pub fn is_readable(record: iff::Record, form: iff::Form, line: &[u8]) -> bool
     ensures { result ≡ readable line.now (record_fields form «record») }
 {
     match line_layout(record, form, line, true) {
-        iff::Test::Passes => true,
-        iff::Test::Fails(_) => false,
+        Ok(()) => true,
+        Err(_) => false,
     }
 }
 
@@ -204,12 +188,8 @@ fn put_fields(tag: u64, n: u64, line: &[u8], first: usize, end: usize, out: &mut
 {
     table_writes::clear(out);
     out[0] = tag;
-    let mut k: usize = 1;
-    let mut j = first;
-    while j < end {
-        out[k] = field_word(n, line, j);
-        k += 1;
-        j += 1;
+    for j in first..end {
+        out[j - first + 1] = field_word(n, line, j);
     }
 }
 
@@ -231,11 +211,8 @@ fn put_marks(tag: u64, line: &[u8], out: &mut [u64])
 {
     table_writes::clear(out);
     out[0] = tag;
-    let mut i: usize = 0;
-    while i < iff::limits::MARK_WORDS {
-        let k = i + 1;
-        out[k] = marks_at(line, i);
-        i = k;
+    for i in 0..iff::limits::MARK_WORDS {
+        out[i + 1] = marks_at(line, i);
     }
 }
 
@@ -274,11 +251,7 @@ pub fn read_line(
     requires { suc (word_count (record_fields form kind)) ≤ length row.old }
     ensures { LineRead form kind tag (line_of line.now ended) row.old row.new result }
 {
-    match line_layout(kind, form, line, ended) {
-        iff::Test::Fails(r) => iff::Test::Fails(r),
-        iff::Test::Passes => {
-            put_words(kind, tag, form, 0, line, row);
-            iff::Test::Passes
-        }
-    }
+    line_layout(kind, form, line, ended)?;
+    put_words(kind, tag, form, 0, line, row);
+    Ok(())
 }

@@ -1,5 +1,5 @@
 -- What the functions of this crate ask and tell, by name.
-use Rattle.std.specs.Prelude.{ℕ, suc, ◌+◌, ◌-◌, ◌≤◌, ◌≡◌, List, ◌∷◌, Bool, true, ◌&&◌, eqb, leb, length}
+use Rattle.std.specs.Prelude.{ℕ, suc, ◌+◌, ◌-◌, ◌≤◌, ◌≡◌, List, ◌∷◌, Bool, true, ◌&&◌, eqb, leb, length, Ok}
 use Rattle.std.proofs.Math.Seq.{slice}
 use Rattle.iff.specs.Lists.{all}
 use Rattle.iff.specs.Lines.{Line}
@@ -8,12 +8,11 @@ use Rattle.iff.specs.Values.{words, words_of, word_count, readable}
 use Rattle.iff.specs.Tables.{padded}
 use Rattle.iff.specs.declared.Form.{Form}
 use Rattle.iff.specs.declared.Record.{Record}
-use Rattle.iff.specs.declared.Test.{Test}
-use Rattle.iff.specs.declared.Test.TheVariants.{Passes}
 use Rattle.records.specs.declared.Entry.{Entry}
 use Rattle.records.specs.declared.Spans.{Spans}
 use Rattle.records.specs.declared.Looks.{Looks}
 use Rattle.records.specs.Layouts.{fields, field_at, byte_of, picture_in, layout_test}
+use Rattle.iff.specs.Refusals.{Test}
 
 -- LEGIBLE: a line whose layout and values are right, so that its words can be read, and room for them and the tag
 pub record Legible (form : Form) (r : Record) (body : List ℕ) (room : ℕ) : Type 0 where
@@ -24,7 +23,7 @@ pub record Legible (form : Form) (r : Record) (body : List ℕ) (room : ℕ) : T
 -- a line's layout and values; its row where both are right
 pub record LineRead (form : Form) (kind : Record) (t : ℕ) (l : Line) (was is : List ℕ) (r : Test) : Type 0 where
   pub test : r ≡ layout_test l (record_fields form kind)
-  pub row : r ≡ Passes → is ≡ padded (length was) (t ∷ words 0 l.body (record_fields form kind))
+  pub row : r ≡ Ok tt → is ≡ padded (length was) (t ∷ words 0 l.body (record_fields form kind))
   pub kept : length is ≡ length was
 
 -- entry j of the table of fields

@@ -6,10 +6,9 @@ use Rattle.iff.specs.Bytes.{digit}
 use Rattle.iff.specs.Lines.{Line, letter}
 use Rattle.iff.specs.Columns.{Class, Letter, Number, StopNumber, NumberOrAny, Code, Marks, Text, Unread, Field, on, picture, form424, record_fields, fields_of, laid, fits, figures, columns}
 use Rattle.iff.specs.Values.{number_of, code_of, stop_of, company_or_any, all_blank, is_wildcard, field_right, readable}
-use Rattle.iff.specs.Refusals.{or_test, unless}
+use Rattle.iff.specs.Refusals.{or_test, unless, Test}
 use Rattle.iff.specs.declared.Form.{Form}
 use Rattle.iff.specs.declared.File.TheVariants.{Timetbls}
-use Rattle.iff.specs.declared.Test.{Test}
 use Rattle.iff.specs.declared.Reason.TheVariants.{Layout, Value}
 use Rattle.iff.specs.declared.Record.{Record}
 use Rattle.iff.specs.declared.Record.TheVariants.{FirstRecord, CompanyRow, CountryRow, ModeRow, ZoneHead, ZonePeriod, StationRow, FootnoteHead, FootnoteVector, ServiceHead, TrainNumber, Validity, Transport, Attribute, PlainStop, Interval, Passed, Platform, ChangeHead, ChangePair, ChangeException}

@@ -5,11 +5,10 @@ use Rattle.iff.specs.Words.{own_company}
 use Rattle.iff.specs.declared.RowFile.TheVariants.{Company}
 use Rattle.iff.specs.declared.File.TheVariants.{Delivery, Rows}
 use Rattle.iff.specs.declared.Reason.TheVariants.{Reference}
-use Rattle.iff.specs.declared.Place.TheVariants.{At}
-use Rattle.iff.specs.declared.Verdict.{Verdict}
 use Rattle.iff_rules.specs.Load.{fault_unless}
 use Rattle.keys.specs.Lookup.{keys_in}
+use Rattle.iff.specs.Refusals.{Verdict, at_place}
 
 -- looked up in COMPANY's table
 abbrev pub company_named : List ℕ → List ℕ → Verdict
-company_named delivery companies = fault_unless (has (own_company delivery) (keys_in (Rows Company) companies)) Reference (At Delivery 0 1)
+company_named delivery companies = fault_unless (has (own_company delivery) (keys_in (Rows Company) companies)) Reference (at_place Delivery 0 1)

@@ -8,7 +8,7 @@ ghost use Rattle.iff_rules.specs.Rows.{Context};
 ghost use Rattle.references.specs.Agree.{BlockKeys, BlockKeysAmong, StationKeys, StationKeysAmong, GroupKeys, GroupKeysAmong};
 ghost use Rattle.references.specs.Company.{company_named};
 
-use iff::{File, GroupFile, Place, Reason, RowFile, Verdict, words};
+use iff::{File, GroupFile, Reason, RowFile, Verdict, words};
 
 // `*` and blanks, packed as a company's three bytes and as a mode's four.
 pub const ANY_COMPANY: u64 = 2760736;
@@ -101,13 +101,20 @@ pub fn company_test(v: Verdict, delivery: &[u64], companies: &[u64]) -> Verdict
     ensures { result ≡ or_else v (company_named delivery.now companies.now) }
 {
     match v {
-        Verdict::Fault(_, _) => v,
-        Verdict::Fine => {
+        Err(_) => v,
+        Ok(()) => {
             let own = tables::word_or_zero(delivery, words::OWN_COMPANY);
             if keys::names(File::Rows(RowFile::Company), companies, own) {
-                return Verdict::Fine;
+                return Ok(());
             }
-            Verdict::Fault(Reason::Reference, Place::At(File::Delivery, 0, 1))
+            Err(iff::Fault {
+                reason: Reason::Reference,
+                place: Some(iff::Place {
+                    file: File::Delivery,
+                    ordinal: 0,
+                    line: 1,
+                }),
+            })
         }
     }
 }

@@ -10,9 +10,6 @@ use Rattle.key_classes.specs.Classes.{CameAgain, ClearTo, ClassLeft}
 use Rattle.repeats.specs.Asking.{Asking}
 
 module _ (classes : ℕ) (ks : List ℕ) (used : ℕ) where
-  pub none_yet : Asking classes ks used 0 used
-  none_yet = record { clear = λ d l. absurd (omega arith); again = λ l. absurd (omega arith) }
-
   pub one_class : (class upto n : ℕ) → Asking classes ks used class upto → ClassLeft classes class ks upto n → Asking classes ks used (class + 1) n
   one_class class upto n x l =
       record {

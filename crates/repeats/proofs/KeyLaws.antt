@@ -13,7 +13,7 @@ use Rattle.iff_desk.specs.Sound.{distinct, passes, followed_by}
 use Rattle.repeats.specs.Repeats.{FirstRepeat, Told}
 use Rattle.key_classes.specs.Classes.{class_of, CameBy}
 use Rattle.repeats.specs.Asking.{Asking}
-use Rattle.repeats.specs.declared.Repeats.TheVariants.{Never, First, Untold}
+use Rattle.repeats.specs.declared.Repeats.TheVariants.{Never, First}
 use Rattle.key_classes.proofs.ClassLaws.{class_below}
 
 -- a key that came is among the first ones, and one that did not is not
@@ -104,10 +104,3 @@ module _ (classes : ℕ) (some : 0 < classes) (ks : List ℕ) (used class n : �
         never = λ q. new_distinct ks (λ j l. none_came j (omega arith) l);
         first = λ j q. absurd (let z : ◌≡◌ {A = ℕ} 0 1 = cc in omega arith);
       }
-
-pub told_nothing : (ks : List ℕ) → Told ks Untold
-told_nothing ks =
-    record {
-      never = λ q. absurd (let z : ◌≡◌ {A = ℕ} 0 1 = cc in omega arith);
-      first = λ j q. absurd (let z : ◌≡◌ {A = ℕ} 0 1 = cc in omega arith);
-    }

@@ -7,8 +7,6 @@ ghost use Rattle.iff.specs.declared.File.TheVariants.{Timetbls};
 ghost use Rattle.keys.specs.Lookup.{keys_among};
 ghost use Rattle.repeats.specs.Repeats.{Told};
 
-use key_classes::Asked;
-
 // What is told of the services of a table: that none comes twice; or how many come before the first that came before; or nothing.
 #[derive(Clone, Copy)]
 pub enum Repeats {
@@ -39,13 +37,11 @@ pub fn first_repeat(t: &[u64], used: usize, count: u64) -> Repeats
 {
     let classes = class_count(used, count);
     let mut upto = used;
-    let mut class: u64 = 0;
-    while class < classes {
-        let Asked::Upto(n) = key_classes::ask_class(t, used, upto, classes, class) else {
+    for class in 0..classes {
+        let Some(n) = key_classes::ask_class(t, used, upto, classes, class) else {
             return Repeats::Untold;
         };
         upto = n;
-        class += 1;
     }
     if upto < used {
         return Repeats::First(upto as u64);

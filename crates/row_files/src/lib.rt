@@ -7,8 +7,7 @@ ghost use Rattle.iff.specs.declared.File.TheVariants.{Rows};
 ghost use Rattle.references.specs.Agree.{StationKeys};
 ghost use Rattle.reading.specs.Reading.{Ready, FileRead};
 
-use iff::{File, Form, Place, RowFile, Verdict};
-use reading::{Begin, RowsRead};
+use iff::{File, Form, RowFile, Verdict};
 
 // A whole file of rows, after a verdict on what came before it: a fault is handed on, and an absent file has none.
 pub fn read_row_file(
@@ -25,24 +24,23 @@ pub fn read_row_file(
     ensures { FileRead (Rows file) form (λ c. StationKeys c countries.now zones.now)
         header.now text.now v t.old t.new result }
 {
-    match v {
-        Verdict::Fault(r, p) => Verdict::Fault(r, p),
-        Verdict::Fine => {
-            if text.len() == 0 {
-                return Verdict::Fine;
-            }
-            match heads::begin_file(File::Rows(file), text, header, t) {
-                Begin::Broken(r) => Verdict::Fault(r, Place::At(File::Rows(file), 0, 1)),
-                Begin::Rest(from) => {
-                    match file_rows::read_rows(file, form, text, from, t, countries, zones) {
-                        RowsRead::Stopped(r, p) => Verdict::Fault(r, p),
-                        RowsRead::AllRead(rises) => {
-                            head_words::set_rises(t, rises);
-                            Verdict::Fine
-                        }
-                    }
-                }
-            }
+    v?;
+    if text.len() == 0 {
+        return Ok(());
+    }
+    match heads::begin_file(File::Rows(file), text, header, t) {
+        Err(r) => Err(iff::Fault {
+            reason: r,
+            place: Some(iff::Place {
+                file: File::Rows(file),
+                ordinal: 0,
+                line: 1,
+            }),
+        }),
+        Ok(from) => {
+            let rises = file_rows::read_rows(file, form, text, from, t, countries, zones)?;
+            head_words::set_rises(t, rises);
+            Ok(())
         }
     }
 }

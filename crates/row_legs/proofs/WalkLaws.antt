@@ -1,6 +1,6 @@
 -- Laws of the loop that marks the legs of some rows of a table. Assumes nothing.
 use Prim.Native.Nat.{ℕ, ◌+◌, ◌-◌, ◌*◌, ◌≤◌, ◌<◌}
-use mathlib.Core.Path.{◌≡◌, refl, ◌∙◌}
+use mathlib.Core.Path.{◌≡◌, ◌∙◌}
 use mathlib.Core.List.{List, ◌∷◌}
 use mathlib.Core.Bool.{Bool, true, false}
 use native.Mathlib.Omega.{arith}
@@ -43,9 +43,6 @@ pub record MarkingRows (t was is : List ℕ) (from to n x i : ℕ) : Type 0 wher
   pub kept : length is ≡ length was
   pub ranged : all (in_range reach_of n) (block_between t i to) ≡ true
   pub whole : (k : ℕ) → get_or is k 0 + rows_times x (block_between t i to) k ≡ get_or was k 0 + rows_times x (block_between t from to) k
-
-pub marking_first : (t was : List ℕ) (from to n x room : ℕ) → RangedBlock t from to n x room → MarkingRows t was was from to n x from
-marking_first t was from to n x room b = record { kept = refl; ranged = b.within; whole = λ k. refl }
 
 module _ (t was is : List ℕ) (from to n x i : ℕ) where
   pub all_marked : to ≤ i → MarkingRows t was is from to n x i → Tally 1 n (rows_times x (block_between t from to)) was is true

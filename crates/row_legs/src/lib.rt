@@ -22,12 +22,10 @@ fn are_in_range(t: &[u64], from: usize, to: usize, n: u64) -> bool
     requires { to * row_width Timetbls ≤ length t.now }
     ensures { result ≡ all (in_range reach_of n) (block_between t.now from to) }
 {
-    let mut i = from;
-    while i < to {
+    for i in from..to {
         if !linked_legs::in_range_at(t, i, n) {
             return false;
         }
-        i += 1;
     }
     true
 }
@@ -49,12 +47,10 @@ fn mark_rows(t: &[u64], from: usize, to: usize, n: u64, kind: u64, marks: &mut [
     requires { RangedBlock t.now from to n kind (length marks.old) }
     ensures { Tally 1 n (rows_times kind (block_between t.now from to)) marks.old marks.new result }
 {
-    let mut i = from;
-    while i < to {
+    for i in from..to {
         if !mark_at(t, i, n, kind, marks) {
             return false;
         }
-        i += 1;
     }
     true
 }

@@ -6,9 +6,15 @@ use mathlib.Core.Bool.{true}
 use native.Mathlib.Omega.{arith}
 use lib.ListN.{length, take, drop, replicate, length-drop, take-append-drop, replicate-append-replicate}
 use lib.Seq.{drop-drop, take_at, drop_at, length-take-le, length_paste_head}
+use Rattle.std.specs.List.{copy_within}
 use Rattle.iff.specs.Tables.{all_zero}
 use Rattle.tables.proofs.Filled.{all_zeros, drop_replicate}
 use Rattle.row_moves.specs.Moves.{copied, moved, Movable}
+
+-- std's word for words copied
+pub copied_is : (t : List ℕ) (from end to : ℕ) → copy_within t from end to ≡ copied t from to (end - from)
+unfolding copied
+copied_is t from end to = append_assoc (take to t) (take (end - from) (drop from t)) (drop (to + (end - from)) t)
 
 -- what is zero from a on is zero from b on
 zeros_behind : (t : List ℕ) (a b : ℕ) → a ≤ b → all_zero (drop a t) ≡ true → drop b t ≡ replicate (length t - b) 0

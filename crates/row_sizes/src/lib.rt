@@ -79,8 +79,7 @@ fn fit_one_by_one(file: iff::File, form: iff::Form, t: &[u64], used: usize) -> b
 {
     let w = tables::row_width(file);
     let mut left = ROOM;
-    let mut i: usize = 1;
-    while i < used {
+    for i in 1..used {
         let tag = tables::word_at(t, w, i, iff::words::TAG);
         let n = record_length(shapes::record_of(file, tag), form);
         if left < n {
@@ -91,7 +90,6 @@ fn fit_one_by_one(file: iff::File, form: iff::Form, t: &[u64], used: usize) -> b
             return false;
         }
         left -= 2;
-        i += 1;
     }
     true
 }

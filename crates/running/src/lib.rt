@@ -11,7 +11,6 @@ ghost use Rattle.iff_desk.specs.Running.{runs_on, asked, runs, running_in};
 ghost use Rattle.store.specs.Found.{Stored, rows_of, Inside};
 
 use iff::{Reason, Test};
-use iff_desk::Running;
 use store::Part;
 
 // A service whose rows are this part of TIMETBLS, a stop or leg of it that is right or is not, and a date: 12, 13, 14.
@@ -23,17 +22,17 @@ pub fn asked(delivery: &[u64], used: usize, part: Part, right: bool, date: u64) 
         → result ≡ asked R s right date }
 {
     if part.to <= part.from {
-        return Test::Fails(Reason::NoService);
+        return Err(Reason::NoService);
     }
     if !right {
-        return Test::Fails(Reason::NoStop);
+        return Err(Reason::NoStop);
     }
     let first = store::first_word(delivery, used, iff::words::FIRST_DAY);
     let last = store::first_word(delivery, used, iff::words::LAST_DAY);
     if !calendar::in_period(first, date, last) {
-        return Test::Fails(Reason::NoDate);
+        return Err(Reason::NoDate);
     }
-    Test::Passes
+    Ok(())
 }
 
 // The day of a date, counted from the first day.
@@ -82,10 +81,10 @@ pub fn is_leg(leg: u64, stops: u64) -> bool
     leg < stops
 }
 
-fn runs(b: bool) -> Running
+fn runs(b: bool) -> Result<bool, iff::Reason>
     ensures { result ≡ runs b }
 {
-    if b { Running::Runs } else { Running::Rests }
+    if b { Ok(true) } else { Ok(false) }
 }
 
 // Does the service run on that leg on that date?
@@ -101,7 +100,7 @@ pub fn running_in(
     service: u64,
     leg: u64,
     date: u64,
-) -> Running
+) -> Result<bool, iff::Reason>
     requires { Stored Delivery delivery_used delivery.now
         × Stored Timetbls timetbls_used timetbls.now
         × Stored (Groups Footnote) footnotes_used footnotes.now }
@@ -119,19 +118,15 @@ pub fn running_in(
         service,
     );
     let right = is_leg(leg, service_rows::count_stops(timetbls, part));
-    match asked(delivery, delivery_used, part, right, date) {
-        Test::Fails(reason) => Running::RunningRefused(reason),
-        Test::Passes => {
-            let day = day_on(delivery, delivery_used, date);
-            runs(runs_on(
-                timetbls,
-                part,
-                footnotes,
-                footnotes_used,
-                footnote_places,
-                leg,
-                day,
-            ))
-        }
-    }
+    asked(delivery, delivery_used, part, right, date)?;
+    let day = day_on(delivery, delivery_used, date);
+    runs(runs_on(
+        timetbls,
+        part,
+        footnotes,
+        footnotes_used,
+        footnote_places,
+        leg,
+        day,
+    ))
 }

@@ -1,5 +1,6 @@
 -- Laws of a service's lines now, and of one whole block. Assumes nothing.
-use Prim.Native.Nat.{ℕ, ◌-◌, ◌≤◌}
+use Rattle.std.specs.Prelude.{Err, None, Ok, Option, Some}
+use Prim.Native.Nat.{ℕ, ◌-◌}
 use mathlib.Core.Path.{◌≡◌, refl, ap, sym, ◌∙◌}
 use mathlib.Core.List.{List, [], ◌∷◌}
 use mathlib.Core.Bool.{Bool, true, false, ◌&&◌}
@@ -13,9 +14,6 @@ use Rattle.iff.specs.Lines.{Line, lines, is_hash}
 use Rattle.iff_desk.specs.Parts.{seek_after, is_head, inner, is_one_block, found}
 use Rattle.iff_desk.specs.Parts.{head_at, up_to, service_lines, lines_now, lines_now_test}
 use Rattle.iff.specs.declared.Reason.TheVariants.{NoService}
-use Rattle.iff.specs.declared.Test.TheVariants.{Passes, Fails}
-use Rattle.iff_desk.specs.declared.Offset.{Offset}
-use Rattle.iff_desk.specs.declared.Offset.TheVariants.{From, NotFound}
 use Rattle.text.specs.declared.LineSpan.{LineSpan}
 use Rattle.text.specs.Spans.{span_line, LineAt}
 use Rattle.text.proofs.LineLaws.{lines_end}
@@ -34,32 +32,22 @@ unfolding all
 both p q [] = refl
 both p q (l ∷ ls) = and_four (p l) (all p ls) (q l) (all q ls) ∙ ap (λ b. (p l && q l) && b) (both p q ls)
 
--- A LOOP OVER THE LINES OF A BLOCK, at `at`
-pub record Following (t : List ℕ) (from at : ℕ) : Type 0 where
-  pub high : at ≤ length t
-  pub whole : all follows (lines (drop from t)) ≡ all follows (lines (drop at t))
+-- A LOOP OVER LINES: those that are left say of all that no line is wrong
+abbrev pub Following : List Line → List Line → Type 0
+Following ls left = all follows ls ≡ all follows left
 
-pub following_first : (t : List ℕ) (from : ℕ) → from ≤ length t → Following t from from
-following_first t from h = record { high = h; whole = refl }
-
-all_none : all follows [] ≡ true
+pub following_all : (ls left : List Line) → left ≡ [] → Following ls left → true ≡ all follows ls
 unfolding all
-all_none = refl
+following_all ls left q i = sym (i ∙ rw q)
 
-all_one : (l : Line) (ls : List Line) → all follows (l ∷ ls) ≡ (follows l && all follows ls)
-unfolding all
-all_one l ls = refl
+module _ (ls left rest : List Line) (l : Line) (q : left ≡ l ∷ rest) (i : Following ls left) where
+  pub following_not : follows l ≡ false → false ≡ all follows ls
+  unfolding all
+  following_not e = sym (i ∙ rw (q, e))
 
-module _ (t : List ℕ) (from at : ℕ) (i : Following t from at) where
-  pub following_all : length t ≤ at → true ≡ all follows (lines (drop from t))
-  following_all h = sym (i.whole ∙ rw (lines_end t at h, all_none))
-
-  module _ (s : LineSpan) (l : LineAt t at s) where
-    pub following_not : follows (span_line t at s) ≡ false → false ≡ all follows (lines (drop from t))
-    following_not e = sym (i.whole ∙ rw (l.head, all_one, e))
-
-    pub following_next : follows (span_line t at s) ≡ true → Following t from s.next
-    following_next e = record { high = l.high; whole = i.whole ∙ rw (l.head, all_one, e) }
+  pub following_next : follows l ≡ true → Following ls rest
+  unfolding all
+  following_next e = i ∙ rw (q, e)
 
 -- one line, by what the code asks of it
 module _ (l : Line) where
@@ -116,21 +104,21 @@ module _ (t : List ℕ) (s : ℕ) where
   unfolding lines_part
   lines_hold = go (head_at t s)
     where
-      upto : (i : ℕ) (o : Offset) → part_of t i (end_at t o) ≡ up_to t i o
-      upto i (From j) = refl
-      upto i NotFound = take_all (length t - i) (drop i t) (rw length-drop (omega arith))
+      upto : (i : ℕ) (o : Option ℕ) → part_of t i (end_at t o) ≡ up_to t i o
+      upto i (Some j) = refl
+      upto i None = take_all (length t - i) (drop i t) (rw length-drop (omega arith))
 
-      go : (o : Offset) → part_of t (lines_from t o).from (lines_from t o).to ≡ service_lines t o
-      go (From i) = upto i (seek_after is_hash i (lines (drop i t)))
-      go NotFound = refl
+      go : (o : Option ℕ) → part_of t (lines_from t o).from (lines_from t o).to ≡ service_lines t o
+      go (Some i) = upto i (seek_after is_hash i (lines (drop i t)))
+      go None = refl
 
-  lines_tested : (lines_part t s).test ≡ found (head_at t s) (Fails NoService)
+  lines_tested : (lines_part t s).test ≡ found (head_at t s) (Err NoService)
   unfolding lines_part
   lines_tested = go (head_at t s)
     where
-      go : (o : Offset) → (lines_from t o).test ≡ found o (Fails NoService)
-      go (From i) = refl
-      go NotFound = refl
+      go : (o : Option ℕ) → (lines_from t o).test ≡ found o (Err NoService)
+      go (Some i) = refl
+      go None = refl
 
 module _ (t block : List ℕ) (s : ℕ) where
   module _ (p : is_one_block s (lines block) ≡ true) where
@@ -138,7 +126,7 @@ module _ (t block : List ℕ) (s : ℕ) where
     unfolding lines_now
     now_block = rw p
 
-    pub test_block : Passes ≡ lines_now_test t block s
+    pub test_block : Ok tt ≡ lines_now_test t block s
     unfolding lines_now_test
     test_block = rw p
 

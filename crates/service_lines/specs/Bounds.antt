@@ -1,11 +1,8 @@
 -- A service's lines by their bounds.
-use Rattle.std.specs.Prelude.{ℕ, List, Bool, ◌&&◌, cond, length, drop}
+use Rattle.std.specs.Prelude.{ℕ, List, Bool, ◌&&◌, cond, length, drop, None, Ok, Option, Some}
 use Rattle.iff.specs.Lines.{Line, lines, is_hash}
 use Rattle.iff.specs.declared.Reason.TheVariants.{NoService}
-use Rattle.iff.specs.declared.Test.TheVariants.{Passes}
 use Rattle.iff_desk.specs.Parts.{seek_after, head_at, inner, is_one_block}
-use Rattle.iff_desk.specs.declared.Offset.{Offset}
-use Rattle.iff_desk.specs.declared.Offset.TheVariants.{From, NotFound}
 use Rattle.parts.specs.Bounds.{no_part}
 use Rattle.parts.specs.declared.Part.{Part}
 
@@ -14,13 +11,13 @@ unfoldable pub follows : Line → Bool
 follows l = l.ended && inner l
 
 -- a service's lines, to the next block or the end
-abbrev pub end_at : List ℕ → Offset → ℕ
-end_at t (From j) = j
-end_at t NotFound = length t
+abbrev pub end_at : List ℕ → Option ℕ → ℕ
+end_at t (Some j) = j
+end_at t None = length t
 
-abbrev pub lines_from : List ℕ → Offset → Part
-lines_from t (From i) = record { test = Passes; from = i; to = end_at t (seek_after is_hash i (lines (drop i t))) }
-lines_from t NotFound = no_part NoService
+abbrev pub lines_from : List ℕ → Option ℕ → Part
+lines_from t (Some i) = record { test = Ok tt; from = i; to = end_at t (seek_after is_hash i (lines (drop i t))) }
+lines_from t None = no_part NoService
 
 unfoldable pub lines_part : List ℕ → ℕ → Part
 lines_part t service = lines_from t (head_at t service)
@@ -30,4 +27,4 @@ abbrev pub text_now : List ℕ → List ℕ → ℕ → List ℕ
 text_now t block service = cond (is_one_block service (lines block)) block t
 
 abbrev pub part_now : List ℕ → List ℕ → ℕ → Part
-part_now t block service = cond (is_one_block service (lines block)) (record { test = Passes; from = 0; to = length block }) (lines_part t service)
+part_now t block service = cond (is_one_block service (lines block)) (record { test = Ok tt; from = 0; to = length block }) (lines_part t service)

@@ -9,7 +9,6 @@ ghost use Rattle.parts.specs.Bounds.{Inside};
 ghost use Rattle.service_lines.specs.Bounds.{follows, lines_part};
 
 use iff::{Reason, Test};
-use iff_desk::Offset;
 use parts::{Part, Want, is_head, no_part, seek, seek_after};
 
 // Every line from `from` on is ended, and none begins `#` or `@`.
@@ -17,21 +16,17 @@ fn all_follow(block: &[u8], from: usize) -> bool
     requires { from ≤ length block.now }
     ensures { result ≡ all follows (lines (drop from block.now)) }
 {
-    let mut at = from;
-    while at < block.len() {
-        let line = text::line_at(block, at);
+    for line in text_lines::lines_from(block, from) {
         if !line.ended {
             return false;
         }
-        let end = line.end;
-        let letter = text::first_byte(&block[at..end]);
+        let letter = text::first_byte(line.body);
         if letter == b'#' {
             return false;
         }
         if letter == b'@' {
             return false;
         }
-        at = line.next;
     }
     true
 }
@@ -59,19 +54,19 @@ pub fn lines_part(text: &[u8], service: u64) -> Part
     ensures { (result ≡ lines_part text.now service) × Inside text.now result }
 {
     match seek(text, 0, Want::Head(service)) {
-        Offset::From(i) => match seek_after(text, i, Want::Hash) {
-            Offset::From(j) => Part {
-                test: Test::Passes,
+        Some(i) => match seek_after(text, i, Want::Hash) {
+            Some(j) => Part {
+                test: Ok(()),
                 from: i,
                 to: j,
             },
-            Offset::NotFound => Part {
-                test: Test::Passes,
+            None => Part {
+                test: Ok(()),
                 from: i,
                 to: text.len(),
             },
         },
-        Offset::NotFound => no_part(Reason::NoService),
+        None => no_part(Reason::NoService),
     }
 }
 
@@ -93,7 +88,7 @@ pub fn lines_now_test(text: &[u8], block: &[u8], service: u64) -> Test
     ensures { result ≡ lines_now_test text.now block.now service }
 {
     if is_one_block(block, service) {
-        return Test::Passes;
+        return Ok(());
     }
     let part = lines_part(text, service);
     part.test

@@ -1,4 +1,5 @@
 -- Rows and their blocks, cut at the first row that opens a service's block: what stands before it and behind its block. Laws of lists. Assumes nothing.
+use Rattle.std.specs.Prelude.{Some}
 use Prim.Native.Nat.{ℕ, zero, suc, ◌-◌, ◌≤◌}
 use mathlib.Core.Path.{◌≡◌, refl, ap, sym, ◌∙◌}
 use mathlib.Core.List.{List, [], ◌∷◌, ◌++◌, map}
@@ -9,10 +10,10 @@ use lib.ListN.{length, take, drop}
 use Rattle.iff.specs.Lists.{front, groups, flat, any, kept, position}
 use Rattle.iff.specs.Tables.{Row, word, is_hash_row, keys_of, first_row}
 use Rattle.iff.specs.Words.{named}
-use Rattle.iff.specs.declared.RowOf.TheVariants.{Row as RowIs}
 use Rattle.iff.specs.declared.File.TheVariants.{Timetbls}
 use Rattle.iff_desk.specs.Amend.{place_of, rows_before, rows_behind}
-use Rattle.tables.proofs.First.{found, first_passing}
+use Rattle.tables.proofs.First.{first_passing}
+use Rattle.std.specs.Option.{is_some}
 use Rattle.store.proofs.FirstLaws.{opens}
 
 -- what stands before the first block, and the rest
@@ -45,13 +46,13 @@ module _ (s : ℕ) where
   FirstAt (r ∷ rs) zero = opens s r ≡ true
   FirstAt (r ∷ rs) (suc i) = (opens s r ≡ false) × FirstAt rs i
 
-  pub first_at : (k : ℕ) (rs : List Row) (i : ℕ) → first_row (opens s) k rs ≡ RowIs i → FirstAt rs (i - k)
+  pub first_at : (k : ℕ) (rs : List Row) (i : ℕ) → first_row (opens s) k rs ≡ Some i → FirstAt rs (i - k)
   unfolding first_row
-  first_at k [] i e = absurd (true≢false (sym (ap found e)))
+  first_at k [] i e = absurd (true≢false (sym (ap is_some e)))
   first_at k (r ∷ rs) i e = go (opens s r) refl e (first_at (suc k) rs i)
     where
-      go : (b : Bool) → opens s r ≡ b → cond b (RowIs k) (first_row (opens s) (suc k) rs) ≡ RowIs i
-          → (first_row (opens s) (suc k) rs ≡ RowIs i → FirstAt rs (i - suc k)) → FirstAt (r ∷ rs) (i - k)
+      go : (b : Bool) → opens s r ≡ b → cond b (Some k) (first_row (opens s) (suc k) rs) ≡ Some i
+          → (first_row (opens s) (suc k) rs ≡ Some i → FirstAt rs (i - suc k)) → FirstAt (r ∷ rs) (i - k)
       go true q e ih =
           let n : k ≡ i = cc in
           let z : i - k ≡ 0 = omega arith in

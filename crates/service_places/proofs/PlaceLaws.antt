@@ -1,4 +1,5 @@
 -- A service's part of TIMETBLS is cut out of it at its first row. Assumes nothing.
+use Rattle.std.specs.Prelude.{None, Option, Some}
 use Prim.Native.Nat.{ℕ, suc, ◌+◌, ◌-◌, ◌*◌, ◌/◌, ◌≤◌, ◌<◌}
 use mathlib.Core.Path.{◌≡◌, refl, ap, sym, ◌∙◌}
 use mathlib.Core.List.{List, [], ◌∷◌, append-nil}
@@ -11,9 +12,8 @@ use lib.Seq.{drop-drop, length-take-le}
 use Rattle.iff.specs.Lists.{front, has}
 use Rattle.iff.specs.Tables.{Row, is_hash_row, row_width, row_at, fill, rows_up_to, rows_in, keys_of, first_row}
 use Rattle.iff.specs.declared.File.TheVariants.{Timetbls}
-use Rattle.iff.specs.declared.RowOf.{RowOf}
-use Rattle.iff.specs.declared.RowOf.TheVariants.{Row as RowIs, NoRow}
-use Rattle.tables.proofs.First.{found, any_found, first_passing}
+use Rattle.tables.proofs.First.{any_found, first_passing}
+use Rattle.std.specs.Option.{is_some}
 use Rattle.tables.proofs.Keys.{has_keys}
 use Rattle.tables.proofs.Rows.{rows_fewer, rows_most, rows_used}
 use Rattle.tables.proofs.Filled.{joined_rows, rows_in_fill}
@@ -73,7 +73,7 @@ module _ (s used : ℕ) (t : List ℕ) (p : Part) (o : Stored Timetbls used t) (
   abbrev rows : List Row
   rows = rows_in Timetbls t
 
-  named_found : has s (keys_of Timetbls rows) ≡ found (first_row (opens s) 0 rows)
+  named_found : has s (keys_of Timetbls rows) ≡ is_some (first_row (opens s) 0 rows)
   named_found = has_keys Timetbls s rows ∙ sym (any_found (opens s) 0 rows)
 
   part_rows : rows_between width t p.from p.to ≡ group_from 0 rows (first_row (opens s) 0 rows)
@@ -88,36 +88,36 @@ module _ (s used : ℕ) (t : List ℕ) (p : Part) (o : Stored Timetbls used t) (
   pub not_held : p.from ≡ p.to → has s (keys_of Timetbls rows) ≡ false
   not_held e = named_found ∙ go (first_row (opens s) 0 rows) (ap length part_rows)
     where
-      go : (r : RowOf) → length (rows_between width t p.from p.to) ≡ length (group_from 0 rows r) → found r ≡ false
-      go (RowIs i) q = absurd (omega (arith, part_count))
-      go NoRow q = refl
+      go : (r : Option ℕ) → length (rows_between width t p.from p.to) ≡ length (group_from 0 rows r) → is_some r ≡ false
+      go (Some i) q = absurd (omega (arith, part_count))
+      go None q = refl
 
   pub held : p.from < p.to → has s (keys_of Timetbls rows) ≡ true
   held h = named_found ∙ go (first_row (opens s) 0 rows) (ap length part_rows)
     where
-      go : (r : RowOf) → length (rows_between width t p.from p.to) ≡ length (group_from 0 rows r) → found r ≡ true
-      go (RowIs i) q = refl
-      go NoRow q = absurd (omega (arith, part_count))
+      go : (r : Option ℕ) → length (rows_between width t p.from p.to) ≡ length (group_from 0 rows r) → is_some r ≡ true
+      go (Some i) q = refl
+      go None q = absurd (omega (arith, part_count))
 
   module _ (h : p.from < p.to) where
     -- the part's first row names it, and is the first that does
-    opens_here : (r : RowOf) → first_row (opens s) 0 rows ≡ r → rows_between width t p.from p.to ≡ group_from 0 rows r
+    opens_here : (r : Option ℕ) → first_row (opens s) 0 rows ≡ r → rows_between width t p.from p.to ≡ group_from 0 rows r
         → opens s (row_at width t p.from) ≡ true
-    opens_here (RowIs i) e q =
+    opens_here (Some i) e q =
         let z : row_at width t p.from ∷ rows_between width t (suc p.from) p.to ≡ get_or rows (i - 0) [] ∷ front is_hash_row (drop (suc (i - 0)) rows)
         = sym (between_first width t p.from p.to h) ∙ q in
         let y : row_at width t p.from ≡ get_or rows (i - 0) [] = cc in
         rw y (first_passing (opens s) 0 rows i e).1.passes
-    opens_here NoRow e q = absurd (omega (arith, part_count, ap length q))
+    opens_here None e q = absurd (omega (arith, part_count, ap length q))
 
     in_use_lem : p.from < at_most used (length t / width)
     in_use_lem =
         let m : used ≤ length t / width = omega (arith, o.counted, rows_most width (length t / width) t) in
         omega (arith, at_most_all used (length t / width) m, g.in_use)
 
-    first_here : first_row (opens s) 0 rows ≡ RowIs p.from
+    first_here : first_row (opens s) 0 rows ≡ Some p.from
     first_here =
-        sym (found_first Timetbls used t s o (RowIs p.from)
+        sym (found_first Timetbls used t s o (Some p.from)
         (as_found Timetbls used t s p.from (record { inside = in_use_lem; names = opens_here (first_row (opens s) 0 rows) refl part_rows })))
 
     cut : Cut s rows p.from

@@ -12,7 +12,6 @@ ghost use Rattle.iff_desk.specs.Store.{stop_at, record_on};
 ghost use Rattle.store.specs.Found.{rows_of, Inside, RowFor};
 ghost use Rattle.service_rows.specs.Lies.{lies_in};
 
-use iff::RowOf;
 use store::Part;
 
 fn is_stop_at(t: &[u64], i: usize) -> bool
@@ -28,18 +27,7 @@ pub fn count_stops(t: &[u64], part: Part) -> u64
     requires { Inside (row_width Timetbls) t.now part }
     ensures { result ≡ stops_of (rows_of (row_width Timetbls) t.now part) }
 {
-    let to = part.to;
-    let mut count: u64 = 0;
-    let mut i = part.from;
-    while i < to {
-        if is_stop_at(t, i) {
-            count += 1;
-            i += 1;
-        } else {
-            i += 1;
-        }
-    }
-    count
+    (part.from..part.to).filter(|i| is_stop_at(t, *i)).count() as u64
 }
 
 // As the first of them tells, the `#` row of a sound block.
@@ -56,25 +44,20 @@ pub fn stops_told(t: &[u64], part: Part) -> u64
 }
 
 // Stop `number`, from 1.
-pub fn stop_row(t: &[u64], part: Part, number: u64) -> RowOf
+pub fn stop_row(t: &[u64], part: Part, number: u64) -> Option<usize>
     requires { Inside (row_width Timetbls) t.now part }
     ensures { RowFor (row_width Timetbls) t.now (stop_at (rows_of (row_width Timetbls) t.now part) number) result }
 {
-    let to = part.to;
     let mut before = one_less(number);
-    let mut i = part.from;
-    while i < to {
+    for i in part.from..part.to {
         if is_stop_at(t, i) {
             if before == 0 {
-                return RowOf::Row(i);
+                return Some(i);
             }
             before -= 1;
-            i += 1;
-        } else {
-            i += 1;
         }
     }
-    RowOf::NoRow
+    None
 }
 
 fn one_less(n: u64) -> u64
@@ -101,17 +84,14 @@ fn lies_at(t: &[u64], i: usize, kind: u64, leg: u64) -> bool
 }
 
 // The record of a kind that a leg lies in.
-pub fn record_row(t: &[u64], part: Part, kind: u64, leg: u64) -> RowOf
+pub fn record_row(t: &[u64], part: Part, kind: u64, leg: u64) -> Option<usize>
     requires { Inside (row_width Timetbls) t.now part }
     ensures { RowFor (row_width Timetbls) t.now (record_on kind leg (rows_of (row_width Timetbls) t.now part)) result }
 {
-    let to = part.to;
-    let mut i = part.from;
-    while i < to {
+    for i in part.from..part.to {
         if lies_at(t, i, kind, leg) {
-            return RowOf::Row(i);
+            return Some(i);
         }
-        i += 1;
     }
-    RowOf::NoRow
+    None
 }

@@ -7,9 +7,10 @@ use native.Mathlib.Nat.{add-zero}
 use native.Mathlib.Omega.{arith}
 use native.Mathlib.Numerals.{add-one}
 use lib.Dec.{eqb, leb}
-use lib.ListN.{length, get_or, drop}
-use lib.Seq.{slice, slice_empty, get_or-drop, drop-drop}
+use lib.ListN.{length, get_or, drop, length-drop}
+use lib.Seq.{slice, slice_empty}
 use borrow.Author.Tests.{eqb-true, leb-true}
+use Rattle.std.specs.List.{list_all, range_with_len, zip}
 use Rattle.text.proofs.PictureLaws.{and_left, and_right}
 use Rattle.iff.specs.Lists.{all, kept}
 use Rattle.iff.specs.Tables.{all_zero}
@@ -110,42 +111,34 @@ module _ (j : ℕ) (h : j < 51) (e : Entry) (o : EntryOf j e) where
   pub entry_fits : (w : ℕ) → word_fits e.2 e.1 w ≡ word_fits (byte_of (field_at j).class) (field_at j).width w
   entry_fits w = rw (o.classed, o.wide)
 
--- THE LOOP OVER THE WORDS: word k is field j's, and what is left is the whole
-pub record Walking (row : List ℕ) (first end k j : ℕ) : Type 0 where
-  pub in_turn : j ≤ end
-  pub room : k + (end - j) ≤ length row
-  pub whole : words_right (drop 1 row) (slice first end fields) ≡ words_right (drop k row) (slice j end fields)
-
-pub walk_begin : (row : List ℕ) (first end : ℕ) → first ≤ end → end - first < length row → Walking row first end 1 first
-walk_begin row first end t h = record { in_turn = t; room = omega arith; whole = refl }
+-- THE WORDS BESIDE THEIR FIELDS, one after the other
+abbrev pub pair_fits : ℕ × ℕ → Bool
+pair_fits p = word_fits (byte_of (field_at p.1).class) (field_at p.1).width p.0
 
 right_cons : (r : List ℕ) (f : Field) (fs : List Field)
     → words_right r (f ∷ fs) ≡ (word_right f.class f.width r && words_right (drop (words_of f.class) r) fs)
 unfolding words_right
 right_cons r f fs = refl
 
-module _ (row : List ℕ) (first end k j : ℕ) (b : end ≤ 51) (l : Walking row first end k j) where
-  module _ (h : j < end) where
-    step : words_right (drop k row) (slice j end fields)
-        ≡ (word_fits (byte_of (field_at j).class) (field_at j).width (get_or row k 0) && words_right (drop (k + 1) row) (slice (j + 1) end fields))
-    step =
-        let o = one_word j (omega arith) in
-        ap (words_right (drop k row)) (slice_step j end h b)
-        ∙ right_cons (drop k row) (field_at j) (slice (j + 1) end fields)
-        ∙ rw (by_class (field_at j).class (field_at j).width (drop k row) o.one, o.one, get_or-drop, add-zero, drop-drop)
+pairs_fit : (n j : ℕ) (r : List ℕ) → j + n ≤ 51 → n ≤ length r → list_all pair_fits (zip r (range_with_len j n)) ≡ words_right r (slice j (j + n) fields)
+unfolding words_right
+pairs_fit zero j [] b h = rw (add-zero, slice_empty)
+pairs_fit zero j (x ∷ xs) b h = rw (add-zero, slice_empty)
+pairs_fit (suc n) j [] b h = absurd (omega arith)
+pairs_fit (suc n) j (x ∷ xs) b h =
+    let o = one_word j (omega arith) in
+    let z : j + suc n ≡ j + 1 + n = omega arith in
+    ap (λ (t : Bool). pair_fits (x, j) && t) (pairs_fit n (j + 1) xs (omega arith) (omega arith))
+    ∙ sym
+    (ap (words_right (x ∷ xs)) (slice_step j (j + suc n) (omega arith) b)
+    ∙ right_cons (x ∷ xs) (field_at j) (slice (j + 1) (j + suc n) fields)
+    ∙ rw (by_class (field_at j).class (field_at j).width (x ∷ xs) o.one, o.one, z))
 
-    pub walk_fails : word_fits (byte_of (field_at j).class) (field_at j).width (get_or row k 0) ≡ false
-        → false ≡ words_right (drop 1 row) (slice first end fields)
-    walk_fails e = sym (l.whole ∙ step ∙ rw e)
-
-    pub walk_on : word_fits (byte_of (field_at j).class) (field_at j).width (get_or row k 0) ≡ true → Walking row first end (k + 1) (j + 1)
-    walk_on e = record { in_turn = omega arith; room = omega arith; whole = l.whole ∙ step ∙ rw e }
-
-  pub walk_end : end ≤ j → true ≡ words_right (drop 1 row) (slice first end fields)
-  unfolding words_right
-  walk_end h =
-      let q : j ≡ end = omega arith in
-      sym (l.whole ∙ rw (q, slice_empty))
+pub words_fit_lem : (row : List ℕ) (first end : ℕ) → first ≤ end → end ≤ 51 → end - first < length row
+    → list_all pair_fits (zip (drop 1 row) (range_with_len first (end - first))) ≡ words_right (drop 1 row) (slice first end fields)
+words_fit_lem row first end t b h =
+    let z : first + (end - first) ≡ end = omega arith in
+    pairs_fit (end - first) first (drop 1 row) (omega arith) (omega (arith, length-drop 1 row)) ∙ rw z
 
 -- A ROW OF A RECORD, whose part of the tables is s
 module _ (form : Form) (r : Record) (s : Spans) (e : s ≡ spans_of r) (row : List ℕ) where

@@ -49,16 +49,10 @@ fn are_words_right(row: &[u64], first: usize, end: usize) -> bool
     requires { (first ≤ end) × (end ≤ 51) × (end - first < length row.now) }
     ensures { result ≡ words_right (drop 1 row.now) (slice first end fields) }
 {
-    let mut k: usize = 1;
-    let mut j = first;
-    while j < end {
-        if !fits_field(row[k], j) {
-            return false;
-        }
-        k += 1;
-        j += 1;
-    }
-    true
+    row[1..]
+        .iter()
+        .zip(first..end)
+        .all(|(word, j)| fits_field(*word, j))
 }
 
 // ROWS

@@ -23,7 +23,7 @@ fn gap_word(gap: i32) -> u64
 }
 
 // Eight words: those of the change, and the gap; 0 where none was reached.
-pub fn answer_words(answer: Change) -> [u64; 8]
+pub fn answer_words(answer: Result<Change, iff::Reason>) -> [u64; 8]
     ensures { result ≡ sheet_words answer }
 {
     let words = change_numbers::change_words(answer);

@@ -2,11 +2,9 @@
 -- shorter than the questions; both write no answer." The answers of these changes are cases of `desk_cases`; here are their words, by the numbers that
 -- the exported change gives, with the gap last.
 use Prim.{tt}
-use Rattle.std.specs.Prelude.{ℕ, refl, List, [], ◌∷◌, ◌++◌, pos, negsuc, replicate, take}
+use Rattle.std.specs.Prelude.{ℕ, refl, List, [], ◌∷◌, ◌++◌, pos, negsuc, replicate, take, Err, Ok}
 use Rattle.iff.specs.Files.{PerFile}
 use Rattle.iff.specs.declared.Reason.TheVariants.{NotSound, ShortList}
-use Rattle.iff.specs.declared.Test.{Test}
-use Rattle.iff.specs.declared.Test.TheVariants.{Passes, Fails}
 use Rattle.iff_desk.specs.Sheet.{answers_by, sheet_test}
 use Rattle.iff_desk.specs.declared.Source.TheVariants.{FromStations, FromXchanges}
 use Rattle.iff_desk.specs.declared.Change.TheVariants.{Yes, Unsettled}
@@ -14,6 +12,7 @@ use Rattle.small_delivery.specs.Claims.{Claim, claim, Hold}
 use Rattle.small_delivery.specs.Opened.{opened}
 use Rattle.small_delivery.specs.Stored.{stored, tampered}
 use Rattle.sheet_answers.specs.Words.{signed_word, sheet_words, answered_in, sheet_list}
+use Rattle.iff.specs.Refusals.{Test}
 
 -- QUESTIONS: a change with gap 0, one a day too early, a service that is not there
 abbrev yes : List ℕ
@@ -46,13 +45,13 @@ after T qs list = (sheet_test T qs list, sheet_list T qs list)
 -- "each the one that the single question gives": a refusal of one stops none after it
 abbrev pub answered : List Claim
 answered =
-    claim "three, and a word behind them" (after stored (yes ++ (lost ++ short)) (junk 25)) (Passes, yes_words ++ (lost_words ++ (short_words ++ junk 1))) ∷
-    claim "room for one, exactly" (after stored short (junk 8)) (Passes, short_words) ∷
-    claim "room for one more" (after stored lost (junk 16)) (Passes, lost_words ++ junk 8) ∷
+    claim "three, and a word behind them" (after stored (yes ++ (lost ++ short)) (junk 25)) (Ok tt, yes_words ++ (lost_words ++ (short_words ++ junk 1))) ∷
+    claim "room for one, exactly" (after stored short (junk 8)) (Ok tt, short_words) ∷
+    claim "room for one more" (after stored lost (junk 16)) (Ok tt, lost_words ++ junk 8) ∷
     -- five words are no question
-    claim "one, and five words behind it" (after stored (yes ++ take 5 short) (junk 9)) (Passes, yes_words ++ junk 1) ∷
-    claim "none, and no list" (after stored [] []) (Passes, []) ∷
-    claim "none, of five words" (after stored (take 5 yes) (junk 9)) (Passes, junk 9) ∷
+    claim "one, and five words behind it" (after stored (yes ++ take 5 short) (junk 9)) (Ok tt, yes_words ++ junk 1) ∷
+    claim "none, and no list" (after stored [] []) (Ok tt, []) ∷
+    claim "none, of five words" (after stored (take 5 yes) (junk 9)) (Ok tt, junk 9) ∷
     []
 
 pub answered_hold : Hold answered
@@ -63,13 +62,13 @@ answered_hold = (refl, (refl, (refl, (refl, (refl, (refl, tt))))))
 abbrev pub refused : List Claim
 refused =
     -- seven words are no answer
-    claim "room for none" (after stored yes (junk 7)) (Fails ShortList, junk 7) ∷
+    claim "room for none" (after stored yes (junk 7)) (Err ShortList, junk 7) ∷
     -- more words than the questions have, and room for one answer less
-    claim "room for one of two" (after stored (yes ++ short) (junk 15)) (Fails ShortList, junk 15) ∷
-    claim "no list" (after stored lost []) (Fails ShortList, []) ∷
-    claim "tables that are not sound" (after tampered yes (junk 8)) (Fails NotSound, junk 8) ∷
-    claim "and no question" (after tampered [] (junk 8)) (Fails NotSound, junk 8) ∷
-    claim "and no list" (after tampered yes []) (Fails NotSound, []) ∷
+    claim "room for one of two" (after stored (yes ++ short) (junk 15)) (Err ShortList, junk 15) ∷
+    claim "no list" (after stored lost []) (Err ShortList, []) ∷
+    claim "tables that are not sound" (after tampered yes (junk 8)) (Err NotSound, junk 8) ∷
+    claim "and no question" (after tampered [] (junk 8)) (Err NotSound, junk 8) ∷
+    claim "and no list" (after tampered yes []) (Err NotSound, []) ∷
     []
 
 pub refused_hold : Hold refused
@@ -83,8 +82,8 @@ words =
     claim "-1" (signed_word (negsuc 0)) 0xFFFFFFFFFFFFFFFF ∷
     claim "-1440" (signed_word (negsuc 1439)) 0xFFFFFFFFFFFFFA60 ∷
     claim "the least of 32 bits" (signed_word (negsuc 2147483647)) 0xFFFFFFFF80000000 ∷
-    claim "Unsettled by an exception" (sheet_words (Unsettled (pos 999) FromXchanges 999)) (0 ∷ 3 ∷ 0 ∷ 1 ∷ 3 ∷ 1 ∷ 999 ∷ 999 ∷ []) ∷
-    claim "Yes by the station" (sheet_words (Yes (pos 90) FromStations 5)) (0 ∷ 2 ∷ 0 ∷ 1 ∷ 2 ∷ 1 ∷ 5 ∷ 90 ∷ []) ∷
+    claim "Unsettled by an exception" (sheet_words (Ok (Unsettled (pos 999) FromXchanges 999))) (0 ∷ 3 ∷ 0 ∷ 1 ∷ 3 ∷ 1 ∷ 999 ∷ 999 ∷ []) ∷
+    claim "Yes by the station" (sheet_words (Ok (Yes (pos 90) FromStations 5))) (0 ∷ 2 ∷ 0 ∷ 1 ∷ 2 ∷ 1 ∷ 5 ∷ 90 ∷ []) ∷
     []
 
 pub words_hold : Hold words

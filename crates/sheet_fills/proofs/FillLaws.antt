@@ -1,8 +1,9 @@
 -- 23, and a list that is filled. Assumes nothing.
-use Prim.Native.Nat.{ℕ, ◌*◌, ◌/◌, ◌≤◌, ◌<◌}
-use mathlib.Core.Path.{◌≡◌, refl, ap, sym, ◌∙◌}
+use Rattle.std.specs.Prelude.{Err, Ok}
+use Prim.Native.Nat.{ℕ, ◌*◌, ◌≤◌, ◌<◌}
+use mathlib.Core.Path.{◌≡◌, refl, ap, sym}
 use mathlib.Core.List.{List}
-use mathlib.Core.Bool.{Bool, true, false}
+use mathlib.Core.Bool.{Bool, true}
 use native.Mathlib.Nat.{div-mul-le_self}
 use native.Mathlib.Omega.{arith}
 use borrow.Author.Tests.{le-leb, lt-leb}
@@ -12,8 +13,6 @@ use Rattle.iff.specs.Refusals.{unless}
 use Rattle.iff.specs.Tables.{Row}
 use Rattle.iff.specs.declared.File.TheVariants.{Timetbls}
 use Rattle.iff.specs.declared.Reason.TheVariants.{ShortList}
-use Rattle.iff.specs.declared.Test.{Test}
-use Rattle.iff.specs.declared.Test.TheVariants.{Passes, Fails}
 use Rattle.iff_desk.specs.Changing.{change_in}
 use Rattle.iff_desk.specs.Sheet.{question_width, answer_width, asked, answer_room, answers_by}
 use Rattle.sheet_answers.specs.Words.{answered_in}
@@ -31,11 +30,11 @@ module _ (qs list : List ℕ) where
   answers_there h = omega (arith, h, div-mul-le_self (length list) answer_width)
 
   module _ (R : PerFile (List Row)) where
-    pub too_short : answer_room list < asked qs → Filled R qs list (Fails ShortList) list
+    pub too_short : answer_room list < asked qs → Filled R qs list (Err ShortList) list
     too_short h = record { tells = sym (ap (λ (b : Bool). unless b ShortList) (lt-leb (asked qs) (answer_room list) h)); leaves = refl }
 
     pub filled : asked qs ≤ answer_room list → (after : List ℕ) → after ≡ answered_in (answers_by (change_in true R) qs 0 (asked qs)) list (asked qs)
-        → Filled R qs list Passes after
+        → Filled R qs list (Ok tt) after
     filled h after is = record { tells = sym (ap (λ (b : Bool). unless b ShortList) (le-leb (asked qs) (answer_room list) h)); leaves = is }
 
 -- THE SERVICES in the slots, told by soundness, still are after what is put for stations

@@ -6,11 +6,11 @@ use Rattle.iff.specs.declared.RowFile.TheVariants.{Stations}
 use Rattle.iff.specs.declared.GroupFile.TheVariants.{Timezone, Footnote, Changes, Xfootnote, Xchanges}
 use Rattle.iff.specs.declared.File.{File}
 use Rattle.iff.specs.declared.File.TheVariants.{Delivery, Rows, Groups, Timetbls}
-use Rattle.iff.specs.declared.Test.{Test}
 use Rattle.iff_desk.specs.Changing.{change_in}
 use Rattle.iff_desk.specs.Sheet.{asked, answers_by, room_test}
 use Rattle.sheet_answers.specs.Words.{answered_in, list_after}
 use Rattle.slots.specs.Slots.{names_at}
+use Rattle.iff.specs.Refusals.{Test}
 
 -- all behind a table's rows in use is zero
 abbrev pub Clean : File → List ℕ → Type 0

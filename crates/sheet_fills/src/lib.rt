@@ -87,7 +87,7 @@ pub fn fill_list(
 {
     let asked = questions.len() / QUESTION_WIDTH;
     if answers.len() / ANSWER_WIDTH < asked {
-        return Test::Fails(Reason::ShortList);
+        return Err(Reason::ShortList);
     }
     let counts = count_rows(
         delivery, timezone, stations, footnote, timetbls, changes, xfootnote, xchanges,
@@ -117,5 +117,5 @@ pub fn fill_list(
         asked,
         answers,
     );
-    Test::Passes
+    Ok(())
 }

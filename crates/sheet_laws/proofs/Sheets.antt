@@ -1,5 +1,6 @@
 -- Request W12 told question by question: where the answer to each stands, what stays as it was, and that a call with one input ends in one way.
 -- Assumes nothing.
+use Rattle.std.specs.Prelude.{Err, Ok, Result}
 use Prim.Native.Nat.{ℕ, zero, suc, ◌+◌, ◌*◌, ◌^◌, ◌<◌}
 use mathlib.Core.Path.{◌≡◌, refl, ap, sym, ◌∙◌}
 use mathlib.Core.List.{List, ◌++◌, map, append_assoc}
@@ -10,12 +11,10 @@ use lib.Signed.{mag}
 use lib.ListN.{length, take, drop, length-append}
 use lib.Seq.{take_at, drop_at, drop-drop}
 use Rattle.iff.specs.Files.{PerFile}
-use Rattle.iff.specs.Refusals.{first_test}
+use Rattle.iff.specs.Refusals.{first_test, Test}
 use Rattle.iff.specs.Tables.{row_at, joined}
 use Rattle.iff.specs.declared.Reason.{Reason}
 use Rattle.iff.specs.declared.Reason.TheVariants.{NotSound}
-use Rattle.iff.specs.declared.Test.{Test}
-use Rattle.iff.specs.declared.Test.TheVariants.{Passes, Fails}
 use Rattle.iff_desk.specs.Sound.{sound}
 use Rattle.iff_desk.specs.Changing.{Side, change}
 use Rattle.iff_desk.specs.Sheet.{answer_width, asked, from_at, to_at, answers_by, answers_to, sheet_test}
@@ -25,11 +24,11 @@ use Rattle.change_numbers.specs.Numbers.{change_words}
 use Rattle.sheet_answers.specs.Words.{signed_word, sheet_words, answered_in, list_after, sheet_list}
 
 -- AN ANSWER'S WORDS: those of the single question first
-pub single_words : (a : Change) → take 7 (sheet_words a) ≡ change_words a
+pub single_words : (a : Result Change Reason) → take 7 (sheet_words a) ≡ change_words a
 unfolding sheet_words
 single_words a = refl
 
-eight : (a : Change) → length (sheet_words a) ≡ answer_width
+eight : (a : Result Change Reason) → length (sheet_words a) ≡ answer_width
 unfolding sheet_words
 eight a = refl
 
@@ -41,7 +40,7 @@ one_gap (negsuc x) (pos y) h g e = absurd (omega arith)
 one_gap (negsuc x) (negsuc y) h g e = let z : x ≡ y = omega arith in ap negsuc z
 
 -- THE ANSWERS in the list, one after the other
-module _ (answer : Side → Side → Change) (qs : List ℕ) where
+module _ (answer : Side → Side → Result Change Reason) (qs : List ℕ) where
   abbrev words : ℕ → ℕ → List ℕ
   words q n = joined (map sheet_words (answers_by answer qs q n))
 
@@ -83,7 +82,7 @@ module _ (answer : Side → Side → Change) (qs : List ℕ) where
 -- THE CALL
 module _ (T : PerFile (List ℕ)) (qs list : List ℕ) where
   -- "each the one that the single question gives"
-  pub answer_is : sheet_test T qs list ≡ Passes → (q : ℕ) → q < asked qs
+  pub answer_is : sheet_test T qs list ≡ Ok tt → (q : ℕ) → q < asked qs
       → row_at answer_width (sheet_list T qs list) q ≡ sheet_words (change T (from_at qs q) (to_at qs q))
   unfolding answered_in
   answer_is e q h =
@@ -93,7 +92,7 @@ module _ (T : PerFile (List ℕ)) (qs list : List ℕ) where
       ∙ ap (λ (j : ℕ). sheet_words (change T (from_at qs j) (to_at qs j))) z)
 
   -- "both write no answer"
-  pub none_written : (r : Reason) → sheet_test T qs list ≡ Fails r → sheet_list T qs list ≡ list
+  pub none_written : (r : Reason) → sheet_test T qs list ≡ Err r → sheet_list T qs list ≡ list
   none_written r e = ap (λ (t : Test). list_after t list (answered_in (answers_to T qs) list (asked qs))) e
 
   -- what is behind the answers stays
@@ -103,11 +102,11 @@ module _ (T : PerFile (List ℕ)) (qs list : List ℕ) where
     where
       go : (t : Test)
           → drop (asked qs * answer_width) (list_after t list (answered_in (answers_to T qs) list (asked qs))) ≡ drop (asked qs * answer_width) list
-      go (Fails r) = refl
-      go Passes = drop_at (words (change T) qs 0 (asked qs)) (drop (asked qs * answer_width) list) (asked qs * answer_width) (so_many (change T) qs 0 (asked qs))
+      go (Err r) = refl
+      go (Ok _) = drop_at (words (change T) qs 0 (asked qs)) (drop (asked qs * answer_width) list) (asked qs * answer_width) (so_many (change T) qs 0 (asked qs))
 
   -- "16, then 23": tables that are not sound are told whatever the lists are
-  pub unsound_first : sound T ≡ false → sheet_test T qs list ≡ Fails NotSound
+  pub unsound_first : sound T ≡ false → sheet_test T qs list ≡ Err NotSound
   unfolding sheet_test first_test
   unsound_first e = rw e
 

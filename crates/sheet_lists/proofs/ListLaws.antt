@@ -1,13 +1,14 @@
 -- Answers put into a lent list one after the other. Assumes nothing.
+use Rattle.std.specs.Prelude.{Result}
 use Prim.Native.Nat.{ℕ, zero, suc, ◌+◌, ◌-◌, ◌*◌, ◌≤◌, ◌<◌}
 use mathlib.Core.Path.{◌≡◌, refl, sym, ap, ◌∙◌}
-use mathlib.Core.List.{List, [], ◌∷◌, ◌++◌, map}
+use mathlib.Core.List.{List, [], ◌∷◌, map}
 use mathlib.Core.Bool.{true}
 use native.Mathlib.Nat.{sub-zero, zero-add}
 use native.Mathlib.Omega.{arith}
-use lib.ListN.{length, take, drop}
+use lib.ListN.{length}
 use Rattle.iff.specs.Files.{PerFile}
-use Rattle.iff.specs.Tables.{Row, joined, put_row}
+use Rattle.iff.specs.Tables.{Row, put_row}
 use Rattle.tables.proofs.Each.{Each}
 use Rattle.tables.proofs.Put.{length_put}
 use Rattle.tables.proofs.Puts.{Wide, put_rows, rows_put}
@@ -17,17 +18,18 @@ use Rattle.iff_desk.specs.declared.Change.{Change}
 use Rattle.changing.specs.Sides.{side_of}
 use Rattle.changing.specs.declared.Visit.{Visit}
 use Rattle.sheet_answers.specs.Words.{sheet_words, answered_in}
+use Rattle.iff.specs.declared.Reason.{Reason}
 
 -- an answer has as many words as it is to have
-pub eight_words : (a : Change) → length (sheet_words a) ≡ answer_width
+pub eight_words : (a : Result Change Reason) → length (sheet_words a) ≡ answer_width
 unfolding sheet_words
 eight_words a = refl
 
-all_wide : (answers : List Change) → Each (Wide answer_width) (map sheet_words answers)
+all_wide : (answers : List (Result Change Reason)) → Each (Wide answer_width) (map sheet_words answers)
 all_wide [] = tt
 all_wide (a ∷ answers) = (eight_words a, all_wide answers)
 
-module _ (answer : Side → Side → Change) (qs : List ℕ) where
+module _ (answer : Side → Side → Result Change Reason) (qs : List ℕ) where
   -- the rows of n answers from question q on
   abbrev rows_from : ℕ → ℕ → List Row
   rows_from q n = map sheet_words (answers_by answer qs q n)
@@ -82,7 +84,7 @@ module _ (answer : Side → Side → Change) (qs : List ℕ) where
           ∙ rw (so_many, zero-add)
 
 -- ONE ANSWER: that of the change between the two sides of a question, in words, put where it belongs
-pub answer_put : (R : PerFile (List Row)) (qs : List ℕ) (q : ℕ) (from to : Visit) (a : Change) (words list next : List ℕ)
+pub answer_put : (R : PerFile (List Row)) (qs : List ℕ) (q : ℕ) (from to : Visit) (a : Result Change Reason) (words list next : List ℕ)
     → side_of from ≡ from_at qs q → side_of to ≡ to_at qs q → a ≡ change_in true R (side_of from) (side_of to) → words ≡ sheet_words a
     → next ≡ put_row answer_width list q words
     → next ≡ put_row answer_width list q (sheet_words (change_in true R (from_at qs q) (to_at qs q)))

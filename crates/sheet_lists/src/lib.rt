@@ -107,8 +107,7 @@ pub fn put_answers(
         changes.now xfootnote.now xchanges.now
         → answers.new ≡ answered_in (answers_by (change_in true R) questions.now 0 asked) answers.old asked }
 {
-    let mut q = 0;
-    while q < asked {
+    for q in 0..asked {
         put_answer(
             delivery,
             timezone,
@@ -125,6 +124,5 @@ pub fn put_answers(
             q,
             answers,
         );
-        q += 1;
     }
 }

@@ -6,7 +6,6 @@ ghost use Rattle.iff.specs.Files.{eleven};
 ghost use Rattle.sheets.specs.Sheeted.{Sheeted};
 
 use iff::{Reason, Test};
-use sound::TablesAre;
 
 // A sheet: 16, then 23, and else every question has the answer that it has by itself.
 pub fn sheet(
@@ -29,7 +28,7 @@ pub fn sheet(
         xfootnote.now xchanges.now) questions.now answers.old result answers.new }
 {
     let mut places = [0u32; sound::SLOTS];
-    let TablesAre::Sound(services_told) = sound::tell_soundness(
+    let Some(services_told) = sound::tell_soundness(
         delivery,
         company,
         country,
@@ -43,7 +42,7 @@ pub fn sheet(
         xchanges,
         &mut places,
     ) else {
-        return Test::Fails(Reason::NotSound);
+        return Err(Reason::NotSound);
     };
     sheet_fills::fill_list(
         delivery,

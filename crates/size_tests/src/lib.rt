@@ -11,7 +11,7 @@ ghost use Rattle.iff.specs.declared.File.TheVariants.{Groups};
 ghost use Rattle.iff_rules.specs.Load.{absence_verdict, room_verdict};
 ghost use Rattle.size_tests.specs.Lengths.{length_within};
 
-use iff::{File, GroupFile, Place, Reason, Verdict};
+use iff::{File, GroupFile, Reason, Verdict};
 
 // Each test hands a fault before it on, so that the first fault of several is what the last of them answers.
 
@@ -20,12 +20,19 @@ pub fn length_test(v: Verdict, most: usize, file: File, n: usize) -> Verdict
     ensures { result ≡ or_else v (length_within most file n) }
 {
     match v {
-        Verdict::Fault(_, _) => v,
-        Verdict::Fine => {
+        Err(_) => v,
+        Ok(()) => {
             if n <= most {
-                return Verdict::Fine;
+                return Ok(());
             }
-            Verdict::Fault(Reason::TooLong, Place::At(file, 0, 0))
+            Err(iff::Fault {
+                reason: Reason::TooLong,
+                place: Some(iff::Place {
+                    file,
+                    ordinal: 0,
+                    line: 0,
+                }),
+            })
         }
     }
 }
@@ -53,15 +60,22 @@ pub fn absence_test(v: Verdict, xchanges: bool, file: File, n: usize) -> Verdict
     ensures { (there : File → Bool) → there (Groups Xchanges) ≡ xchanges → there file ≡ ltb 0 n → result ≡ or_else v (absence_verdict there file) }
 {
     match v {
-        Verdict::Fault(_, _) => v,
-        Verdict::Fine => {
+        Err(_) => v,
+        Ok(()) => {
             if is_needed(xchanges, file) {
                 if n == 0 {
-                    return Verdict::Fault(Reason::Absent, Place::At(file, 0, 0));
+                    return Err(iff::Fault {
+                        reason: Reason::Absent,
+                        place: Some(iff::Place {
+                            file,
+                            ordinal: 0,
+                            line: 0,
+                        }),
+                    });
                 }
-                return Verdict::Fine;
+                return Ok(());
             }
-            Verdict::Fine
+            Ok(())
         }
     }
 }
@@ -71,14 +85,21 @@ pub fn room_test(v: Verdict, file: File, text: &[u8], words: usize) -> Verdict
     ensures { result ≡ or_else v (room_verdict file (length (lines text.now)) words) }
 {
     match v {
-        Verdict::Fault(_, _) => v,
-        Verdict::Fine => {
+        Err(_) => v,
+        Ok(()) => {
             let count = line_counts::count_lines(text);
             let room = tables::room(file, words);
             if count <= room {
-                return Verdict::Fine;
+                return Ok(());
             }
-            Verdict::Fault(Reason::NoRoom, Place::At(file, 0, 0))
+            Err(iff::Fault {
+                reason: Reason::NoRoom,
+                place: Some(iff::Place {
+                    file,
+                    ordinal: 0,
+                    line: 0,
+                }),
+            })
         }
     }
 }

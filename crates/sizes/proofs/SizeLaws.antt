@@ -1,22 +1,21 @@
 -- Verdicts in turn, and the sizes of eleven files. Assumes nothing.
+use Rattle.std.specs.Prelude.{Err, Ok}
 use Prim.Native.Nat.{ℕ}
 use mathlib.Core.Path.{◌≡◌, refl, ap, sym, ◌∙◌}
 use mathlib.Core.List.{List, [], ◌∷◌}
-use Rattle.iff.specs.Refusals.{or_else, first_fault}
+use Rattle.iff.specs.Refusals.{or_else, first_fault, Verdict}
 use Rattle.iff.specs.Files.{PerFile, limit}
 use Rattle.iff.specs.declared.RowFile.TheVariants.{Company, Country, Trnsmode, Stations}
 use Rattle.iff.specs.declared.GroupFile.TheVariants.{Timezone, Footnote, Changes, Xfootnote, Xchanges}
 use Rattle.iff.specs.declared.File.{File}
 use Rattle.iff.specs.declared.File.TheVariants.{Delivery, Rows, Groups, Timetbls}
-use Rattle.iff.specs.declared.Verdict.{Verdict}
-use Rattle.iff.specs.declared.Verdict.TheVariants.{Fine, Fault}
 use Rattle.iff_rules.specs.Load.{over_files}
 use Rattle.iff_laws.specs.ScanLaws.{or_nothing}
 use Rattle.sizes.specs.Sizes.{lengths_within, absences_verdict, rooms_verdict, lengths_of, sizes_verdict}
 
 pub regroup : (v a b : Verdict) → or_else v (or_else a b) ≡ or_else (or_else v a) b
-regroup Fine a b = refl
-regroup (Fault r p) a b = refl
+regroup (Ok _) a b = refl
+regroup (Err fault) a b = refl
 
 -- one test more, in turn
 pub step : (v : Verdict) {w : Verdict} (a : Verdict) (rest : List Verdict) →

@@ -1,10 +1,9 @@
 -- The verdict over a delivery's sizes, and its three parts.
 use Rattle.std.specs.Prelude.{ℕ, List, Bool, ltb, length}
-use Rattle.iff.specs.Refusals.{or_else}
+use Rattle.iff.specs.Refusals.{or_else, Verdict}
 use Rattle.iff.specs.Files.{PerFile, of, limit, per_file}
 use Rattle.iff.specs.Lines.{lines}
 use Rattle.iff.specs.declared.File.{File}
-use Rattle.iff.specs.declared.Verdict.{Verdict}
 use Rattle.iff_rules.specs.Load.{absence_verdict, room_verdict, over_files}
 use Rattle.size_tests.specs.Lengths.{length_within}
 

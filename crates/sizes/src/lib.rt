@@ -27,7 +27,7 @@ pub fn lengths(
         (eleven n_delivery n_company n_country n_trnsmode n_timezone n_stations n_footnote n_timetbls
         n_changes n_xfootnote n_xchanges) }
 {
-    let v1 = size_tests::length_test(Verdict::Fine, most, File::Delivery, n_delivery);
+    let v1 = size_tests::length_test(Ok(()), most, File::Delivery, n_delivery);
     let v2 = size_tests::length_test(v1, most, File::Rows(RowFile::Company), n_company);
     let v3 = size_tests::length_test(v2, most, File::Rows(RowFile::Country), n_country);
     let v4 = size_tests::length_test(v3, most, File::Rows(RowFile::Trnsmode), n_trnsmode);

@@ -19,7 +19,7 @@ use Rattle.keys.proofs.PlaceLaws.{place_inside}
 use Rattle.fresh_keys.proofs.Runs.{and_left, and_right}
 use Rattle.slots.specs.Slots.{last_row, names_at, key_at, keys_between, PutBefore, Stands, Index, Kept}
 use Rattle.slots.specs.Slots.{earlier, Passed, AllPassed, PassedFor, FirstFree, Probed}
-use Rattle.slots.specs.declared.Met.TheVariants.{Free, Taken, Full}
+use Rattle.slots.specs.declared.Met.TheVariants.{Taken}
 
 -- what is in another slot stays, and a free slot is none that was put into
 module _ (ps : List ℕ) (s row x : ℕ) (there : s < length ps) (some : 0 < row) (e : get_or (set ps s row) x 0 ≡ 0) where
@@ -89,9 +89,6 @@ none_row p w t i (suc k) h = rw (h i (omega arith) (omega arith)) (none_row p w 
 
 -- the slots that are passed, one more
 module _ (w tag col : ℕ) (t : List ℕ) (i key : ℕ) (ps : List ℕ) (from : ℕ) where
-  pub none_passed : AllPassed w tag col t i key ps from from
-  none_passed x l h = absurd (omega arith)
-
   pub one_passed : (to : ℕ) → AllPassed w tag col t i key ps from to
       → (get_or ps to 0 ≡ 0 → ⊥) → (b : Bool) → b ≡ earlier w tag col t i key (get_or ps to 0) → b ≡ false
       → AllPassed w tag col t i key ps from (to + 1)
@@ -106,18 +103,6 @@ module _ (w tag col : ℕ) (t : List ℕ) (i key : ℕ) (ps : List ℕ) (from : 
 -- the walk asks for the file's own tag and word, in rows of its width
 module _ (f : File) (w tag col : ℕ) (v : w ≡ row_width f) (g : tag ≡ key_tag f) (m : col ≡ key_word f)
     (t : List ℕ) (i key : ℕ) (ps : List ℕ) (from : ℕ) where
-  in_file : (to : ℕ) → AllPassed w tag col t i key ps from to → PassedFor f t i key ps from to
-  in_file to h = rw (v, g, m) at h
-
-  pub free_met : (s : ℕ) → from ≤ s → s < from + probes → get_or ps s 0 ≡ 0 → AllPassed w tag col t i key ps from s
-      → Probed f t i key ps from (Free s)
-  free_met s l h e p =
-      record {
-        free = λ x q. let z : s ≡ x = cc in rw (← z) (record { low = l; high = h; free = e; passed = in_file s p });
-        taken = λ q. absurd (let z : ◌≡◌ {A = ℕ} 0 1 = cc in omega arith);
-        full = λ q. absurd (let z : ◌≡◌ {A = ℕ} 0 1 = cc in omega arith);
-      }
-
   pub taken_met : (row : ℕ) (b : Bool) → b ≡ earlier w tag col t i key row → b ≡ true → Probed f t i key ps from Taken
   taken_met row b e y =
       let q : earlier (row_width f) (key_tag f) (key_word f) t i key row ≡ true = rw (← v, ← g, ← m) (sym e ∙ y) in
@@ -128,14 +113,6 @@ module _ (f : File) (w tag col : ℕ) (v : w ≡ row_width f) (g : tag ≡ key_t
             has_keys f key (rows_between (row_width f) t 0 i)
             ∙ any_row (keyed (key_tag f) (key_word f) key) (row_width f) t 0 (i - 0) row (omega arith) (omega arith) (and_right (ltb row i) _ q);
         full = λ z. absurd (let z : ◌≡◌ {A = ℕ} 0 1 = cc in omega arith);
-      }
-
-  pub full_met : (to : ℕ) → from + probes ≤ to → AllPassed w tag col t i key ps from to → Probed f t i key ps from Full
-  full_met to h p =
-      record {
-        free = λ x z. absurd (let z : ◌≡◌ {A = ℕ} 0 1 = cc in omega arith);
-        taken = λ z. absurd (let z : ◌≡◌ {A = ℕ} 0 1 = cc in omega arith);
-        full = λ z x l y. in_file to p x l (omega arith);
       }
 
 -- what a walk says of the key of row i

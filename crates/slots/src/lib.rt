@@ -34,9 +34,7 @@ pub fn probe(file: iff::File, t: &[u64], i: usize, places: &[u32], key: u64) -> 
     let tag = keys::key_tag(file);
     let col = keys::key_word(file);
     let from = keys::place_of(key, places.len());
-    let end = from + keys::PROBES;
-    let mut at = from;
-    while at < end {
+    for at in from..from + keys::PROBES {
         let row = places[at] as usize;
         if row == 0 {
             return Met::Free(at);
@@ -44,7 +42,6 @@ pub fn probe(file: iff::File, t: &[u64], i: usize, places: &[u32], key: u64) -> 
         if is_earlier(t, w, row, i, tag, col, key) {
             return Met::Taken;
         }
-        at += 1;
     }
     Met::Full
 }

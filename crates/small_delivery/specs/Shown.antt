@@ -1,8 +1,8 @@
 -- Answers as document 01 shows them: days and services, or number, file, ordinal and line.
-use Rattle.std.specs.Prelude.{ℕ, ◌*◌, List, [], ◌∷◌}
+use Rattle.std.specs.Prelude.{ℕ, ◌*◌, List, [], ◌∷◌, Err, Ok, Option}
 use Prim.Native.String.{String}
 use Rattle.iff.specs.Files.{PerFile, per_file, file_at}
-use Rattle.iff.specs.Refusals.{number, ordinal, line_at}
+use Rattle.iff.specs.Refusals.{number, ordinal, line_at, Answer}
 use Rattle.iff.specs.Tables.{row_width}
 use Rattle.iff.specs.declared.RowFile.{RowFile}
 use Rattle.iff.specs.declared.RowFile.TheVariants.{Company, Country, Trnsmode, Stations}
@@ -10,22 +10,20 @@ use Rattle.iff.specs.declared.GroupFile.{GroupFile}
 use Rattle.iff.specs.declared.GroupFile.TheVariants.{Timezone, Footnote, Changes, Xfootnote, Xchanges}
 use Rattle.iff.specs.declared.File.{File}
 use Rattle.iff.specs.declared.File.TheVariants.{Delivery, Rows, Groups, Timetbls}
-use Rattle.iff.specs.declared.Place.{Place}
-use Rattle.iff.specs.declared.Answer.{Answer}
-use Rattle.iff.specs.declared.Answer.TheVariants.{Accepted, Refused}
 use Rattle.iff_rules.specs.Load.{load_answer}
 use Rattle.small_delivery.specs.Delivery.{files}
+use Rattle.iff.specs.declared.Place.{Place}
 
 pub data Shown : Type 0 where
   accepted : ℕ → ℕ → Shown
   refused : ℕ → ℕ → ℕ → ℕ → Shown
 
 abbrev pub shown : Answer → Shown
-shown (Accepted days services) = accepted days services
-shown (Refused r p) = refused (number r) (file_at p) (ordinal p) (line_at p)
+shown (Ok done) = accepted done.days done.services
+shown (Err fault) = refused (number fault.reason) (file_at fault.place) (ordinal fault.place) (line_at fault.place)
 
 -- a place: file, ordinal and line
-abbrev pub place : Place → List ℕ
+abbrev pub place : Option Place → List ℕ
 place p = file_at p ∷ ordinal p ∷ line_at p ∷ []
 
 -- "The eleven files", "Read in this order": a place's file, from 1

@@ -1,5 +1,6 @@
 -- Soundness put together again: a chain of tests over the files, and the parts of the whole. Assumes nothing.
-use Prim.Native.Nat.{ℕ, zero, suc, ◌+◌, ◌*◌, ◌≤◌, ◌<◌}
+use Rattle.std.specs.Prelude.{None, Some}
+use Prim.Native.Nat.{ℕ, suc, ◌+◌, ◌≤◌, ◌<◌}
 use mathlib.Core.Path.{◌≡◌, refl, ap, sym, ◌∙◌}
 use mathlib.Core.List.{List, [], ◌∷◌}
 use mathlib.Core.Bool.{Bool, true, false, ◌&&◌, cond, and-true, and-false, false≢true}
@@ -8,11 +9,11 @@ use borrow.Author.Tests.{le-ltb, lt-ltb, ltb-true, ltb-false}
 use lib.Dec.{ltb, leb}
 use lib.ListN.{length, get_or, drop}
 use Rattle.iff.specs.Lists.{all, all_of, total, has}
-use Rattle.iff.specs.Files.{PerFile, of, in_order, needed, limit}
+use Rattle.iff.specs.Files.{PerFile, of, in_order, limit}
 use Rattle.iff.specs.Columns.{form424}
 use Rattle.iff.specs.Days.{span}
 use Rattle.iff.specs.Words.{own_company, first_day, last_day}
-use Rattle.iff.specs.Tables.{Row, row_width, rows_in, all_zero, keys_of}
+use Rattle.iff.specs.Tables.{Row, rows_in, keys_of}
 use Rattle.iff.specs.declared.RowFile.TheVariants.{Company, Country, Trnsmode, Stations}
 use Rattle.iff.specs.declared.GroupFile.TheVariants.{Timezone, Footnote, Changes, Xfootnote, Xchanges}
 use Rattle.iff.specs.declared.File.{File}
@@ -25,7 +26,6 @@ use Rattle.keys.specs.Lookup.{keys_in}
 use Rattle.keys.proofs.Among.{keys_counted}
 use Rattle.references.specs.Agree.{StationKeys, GroupKeysAmong, BlockKeysAmong}
 use Rattle.sound.specs.declared.UsedRows.{UsedRows}
-use Rattle.sound.specs.declared.TablesAre.TheVariants.{Sound, Unsound}
 use Rattle.slots.specs.Slots.{Index}
 use Rattle.walks.proofs.TableLaws.{tag_first}
 use Rattle.sound_row_walks.proofs.UsedLaws.{room_ends, rows_end, row_used}
@@ -294,16 +294,16 @@ module _ (T : PerFile (List ℕ)) where
 
 -- WHAT IS TOLD, with slots that are `ps` at the end
 module _ (T : PerFile (List ℕ)) (ps : List ℕ) where
-  pub unsound : false ≡ sound T → SoundTold T ps Unsound
+  pub unsound : false ≡ sound T → SoundTold T ps None
   unsound e = record { says = e; services = λ q. absurd (let z : ◌≡◌ {A = ℕ} 0 1 = cc in omega arith) }
 
   module _ (e : true ≡ sound T) where
-    pub hinted : SoundTold T ps (Sound false)
+    pub hinted : SoundTold T ps (Some false)
     hinted = record { says = e; services = λ q. let z : false ≡ true = cc in absurd (false≢true z) }
 
     -- they were an index before, and stayed as they were
     pub indexed : (told : Bool) (qs : List ℕ) → ps ≡ qs
-        → (told ≡ true → Index Timetbls T.timetbls (length (rows_in Timetbls T.timetbls)) (length qs) qs) → SoundTold T ps (Sound told)
+        → (told ≡ true → Index Timetbls T.timetbls (length (rows_in Timetbls T.timetbls)) (length qs) qs) → SoundTold T ps (Some told)
     indexed told qs same i = record { says = e; services = λ q. let z : told ≡ true = cc in rw same (i z) }
 
 -- a form by its first line

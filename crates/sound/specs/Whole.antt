@@ -1,5 +1,5 @@
 -- The rows in use of ten tables, counted; and soundness as it is asked: which tables are there, their frames, their rows behind the first lines'.
-use Rattle.std.specs.Prelude.{ℕ, ◌≡◌, List, Bool, true, false, ◌&&◌, cond, length}
+use Rattle.std.specs.Prelude.{ℕ, ◌≡◌, List, Bool, true, ◌&&◌, cond, length, Option, Some, is_some}
 use Rattle.iff.specs.Lists.{all}
 use Rattle.iff.specs.Files.{PerFile, of, in_order, needed}
 use Rattle.iff.specs.Tables.{Row, rows_in}
@@ -14,8 +14,6 @@ use Rattle.slots.specs.Slots.{Index}
 use Rattle.sound_frames.specs.Frames.{framed}
 use Rattle.sound_behind.specs.Behind.{behind}
 use Rattle.sound.specs.declared.UsedRows.{UsedRows}
-use Rattle.sound.specs.declared.TablesAre.{TablesAre}
-use Rattle.sound.specs.declared.TablesAre.TheVariants.{Sound, Unsound}
 
 -- each count is that of its table; TIMETBLS is not counted
 pub record Counted (T : PerFile (List ℕ)) (u : UsedRows) : Type 0 where
@@ -54,10 +52,6 @@ abbrev pub timetbls_sound : Context → Form → Row → List ℕ → Bool
 timetbls_sound c form delivery t = framed form delivery Timetbls t && behind c Timetbls (rows_in Timetbls t)
 
 -- WHAT IS TOLD of eleven tables: whether they are sound, and where they are, whether the slots `ps` are an index of all services
-abbrev pub is_sound_told : TablesAre → Bool
-is_sound_told (Sound told) = true
-is_sound_told Unsound = false
-
-pub record SoundTold (T : PerFile (List ℕ)) (ps : List ℕ) (r : TablesAre) : Type 0 where
-  pub says : is_sound_told r ≡ sound T
-  pub services : r ≡ Sound true → Index Timetbls T.timetbls (length (rows_in Timetbls T.timetbls)) (length ps) ps
+pub record SoundTold (T : PerFile (List ℕ)) (ps : List ℕ) (r : Option Bool) : Type 0 where
+  pub says : is_some r ≡ sound T
+  pub services : r ≡ Some true → Index Timetbls T.timetbls (length (rows_in Timetbls T.timetbls)) (length ps) ps

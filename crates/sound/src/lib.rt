@@ -15,13 +15,6 @@ use iff::{Edition, File, Form, GroupFile, RowFile, words};
 // The slots of the index: a prime number of places to begin at, and those that are tried behind them. Half a megabyte serves some hundred thousand keys.
 pub const SLOTS: usize = 131135;
 
-// Tables are sound, and whether the slots are then an index of all services: a free slot says that a service is not there.
-#[derive(Clone, Copy)]
-pub enum TablesAre {
-    Sound(bool),
-    Unsound,
-}
-
 // How many rows of each table are in use. Those of TIMETBLS are most of a delivery's, and are counted where they are tested.
 #[derive(Clone, Copy)]
 pub struct UsedRows {
@@ -395,7 +388,8 @@ pub fn form_of(first: &[u64]) -> Form
 
 // The tables that are needed are there: the frames, TIMETBLS as a whole, the rows of the others, and DELIVERY's own company. CHANGES, whose rows name
 // services, comes after TIMETBLS, whose services are in the index then, as far as they are not too many; those that CHANGES names are in any case.
-// Where one of these had to be asked for, its number may stand where a row stood, and the slots are a hint and no longer an index.
+// Where one of these had to be asked for, its number may stand where a row stood, and the slots are a hint and no longer an index. Where all are
+// sound, whether the slots are an index of all services: a free slot says that a service is not there.
 fn are_all_sound(
     delivery: &[u64],
     company: &[u64],
@@ -411,7 +405,7 @@ fn are_all_sound(
     used: UsedRows,
     first: &[u64],
     places: &mut [u32],
-) -> TablesAre
+) -> Option<bool>
     requires { Counted (eleven delivery.now company.now country.now trnsmode.now timezone.now stations.now footnote.now timetbls.now changes.now xfootnote.now xchanges.now) used
         × (first.now ≡ first_of (rows_in Delivery delivery.now)) × (5 ≤ length first.now)
         × (all_there (rows_of_tables (eleven delivery.now company.now country.now trnsmode.now timezone.now stations.now footnote.now timetbls.now changes.now xfootnote.now xchanges.now)) ≡ true) }
@@ -424,7 +418,7 @@ fn are_all_sound(
         delivery, company, country, trnsmode, timezone, stations, footnote, timetbls, changes,
         xfootnote, xchanges, used, first, form, places,
     ) {
-        return TablesAre::Unsound;
+        return None;
     }
     let blocks = references::BlockCounts {
         companies: used.company,
@@ -432,17 +426,15 @@ fn are_all_sound(
         stations: used.stations,
         footnotes: used.footnote,
     };
-    let sound_behind::Judged::Right(services, told) = sound_behind::judge_blocks(
+    let (services, told) = sound_behind::judge_blocks(
         timetbls, first, form, blocks, company, trnsmode, stations, footnote, places,
-    ) else {
-        return TablesAre::Unsound;
-    };
+    )?;
     let asked = named_places::index_in_rows(changes, used.changes, timetbls, services, places);
     if !are_right_behind(
         delivery, company, country, trnsmode, timezone, stations, footnote, timetbls, changes,
         xfootnote, xchanges, used, services, form, places,
     ) {
-        return TablesAre::Unsound;
+        return None;
     }
     if !lookups::names_at(
         File::Rows(RowFile::Company),
@@ -451,12 +443,12 @@ fn are_all_sound(
         places,
         first[words::OWN_COMPANY],
     ) {
-        return TablesAre::Unsound;
+        return None;
     }
     if asked {
-        return TablesAre::Sound(false);
+        return Some(false);
     }
-    TablesAre::Sound(told)
+    Some(told)
 }
 
 // Soundness, with slots lent for the index of the keys, which may hold anything before and hold every key's row as a hint afterwards; and whether
@@ -474,7 +466,7 @@ pub fn tell_soundness(
     xfootnote: &[u64],
     xchanges: &[u64],
     places: &mut [u32],
-) -> TablesAre
+) -> Option<bool>
     ensures { SoundTold (eleven delivery.now company.now country.now trnsmode.now
         timezone.now stations.now footnote.now timetbls.now changes.now
         xfootnote.now xchanges.now) places.new result }
@@ -484,7 +476,7 @@ pub fn tell_soundness(
         xchanges,
     );
     if !are_there(used, has_blocks(timetbls)) {
-        return TablesAre::Unsound;
+        return None;
     }
     let first = &delivery[0..6];
     are_all_sound(
@@ -512,11 +504,9 @@ pub fn is_sound_by(
         timezone.now stations.now footnote.now timetbls.now changes.now
         xfootnote.now xchanges.now) }
 {
-    match tell_soundness(
+    tell_soundness(
         delivery, company, country, trnsmode, timezone, stations, footnote, timetbls, changes,
         xfootnote, xchanges, places,
-    ) {
-        TablesAre::Sound(_) => true,
-        TablesAre::Unsound => false,
-    }
+    )
+    .is_some()
 }

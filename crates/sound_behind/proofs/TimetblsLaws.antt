@@ -1,4 +1,5 @@
 -- TIMETBLS, its frame and its blocks together: what each way out of the tests says. Assumes nothing.
+use Rattle.std.specs.Prelude.{None, Option, Some}
 use Prim.Native.Nat.{ℕ, ◌*◌, ◌<◌}
 use mathlib.Core.Path.{◌≡◌, refl, ap, sym, ◌∙◌}
 use mathlib.Core.List.{List}
@@ -17,16 +18,15 @@ use Rattle.fresh_keys.proofs.Runs.{and_left, and_right}
 use Rattle.slots.specs.Slots.{Index}
 use Rattle.walks.proofs.TableLaws.{parted}
 use Rattle.sound_timetbls.specs.Told.{BlocksTold}
-use Rattle.sound_timetbls.specs.declared.BlocksAre.{BlocksAre}
 use Rattle.sound_frames.specs.Frames.{framed_rows, framed}
 use Rattle.sound_frames.proofs.FrameLaws.{later_keys, not_distinct, some_rows}
 use Rattle.references.specs.declared.BlockCounts.{BlockCounts}
 use Rattle.references.specs.Agree.{BlockKeysAmong}
 use Rattle.sound_behind.specs.Behind.{behind, BlocksJudged}
-use Rattle.sound_behind.specs.declared.Judged.TheVariants.{Right, Wrong}
+use Rattle.sound_timetbls.specs.declared.SoundBlocks.{SoundBlocks}
 
 -- what is told of blocks, by the number of rows that they tell
-pub by_number : (counts : BlockCounts) (co mo st fo t : List ℕ) (used n : ℕ) → n ≡ used → (qs : List ℕ) (r : BlocksAre)
+pub by_number : (counts : BlockCounts) (co mo st fo t : List ℕ) (used n : ℕ) → n ≡ used → (qs : List ℕ) (r : Option SoundBlocks)
     → BlocksTold counts co mo st fo t used qs r → BlocksTold counts co mo st fo t n qs r
 by_number counts co mo st fo t used n e qs r told = rw e told
 
@@ -84,7 +84,7 @@ module _ (counts : BlockCounts) (co mo st fo : List ℕ) (form : Form) (delivery
   abbrev Whole : Context → Bool
   Whole c = framed form delivery Timetbls t && behind c Timetbls (rows_in Timetbls t)
 
-  pub wrong : ((c : Context) → BlockKeysAmong c counts co mo st fo → false ≡ Whole c) → BlocksJudged counts co mo st fo form delivery t qs Wrong
+  pub wrong : ((c : Context) → BlockKeysAmong c counts co mo st fo → false ≡ Whole c) → BlocksJudged counts co mo st fo form delivery t qs None
   wrong s =
       record {
         says = s;
@@ -95,10 +95,10 @@ module _ (counts : BlockCounts) (co mo st fo : List ℕ) (form : Form) (delivery
   pub right : (used : ℕ) (told : Bool) → used ≡ length (rows_in Timetbls t)
       → (told ≡ true → Index Timetbls t (length (rows_in Timetbls t)) (length qs) qs)
       → ((c : Context) → BlockKeysAmong c counts co mo st fo → true ≡ Whole c)
-      → BlocksJudged counts co mo st fo form delivery t qs (Right used told)
+      → BlocksJudged counts co mo st fo form delivery t qs (Some (used, told))
   right used told e i s =
       record {
         says = s;
-        rows = λ n x q. let z : used ≡ n = cc in sym z ∙ e;
-        index = λ n x q y. let z : told ≡ true = cc in i z;
+        rows = λ n x q. let z : ◌≡◌ {A = ℕ × Bool} (used, told) (n, x) = cc in sym (ap (λ p. p.0) z) ∙ e;
+        index = λ n x q y. let z : ◌≡◌ {A = ℕ × Bool} (used, told) (n, x) = cc in i (ap (λ p. p.1) z ∙ y);
       }

@@ -1,5 +1,5 @@
 -- What soundness asks of the rows behind a first line's; a table without rows has none. And what is told of TIMETBLS as a whole.
-use Rattle.std.specs.Prelude.{ℕ, ◌≡◌, List, [], ◌∷◌, Bool, true, false, ◌&&◌, length}
+use Rattle.std.specs.Prelude.{ℕ, ◌≡◌, List, [], ◌∷◌, Bool, true, false, ◌&&◌, length, None, Option, Some}
 use Rattle.iff.specs.Tables.{Row, rows_in}
 use Rattle.iff.specs.declared.File.{File}
 use Rattle.iff.specs.declared.File.TheVariants.{Timetbls}
@@ -10,22 +10,20 @@ use Rattle.references.specs.declared.BlockCounts.{BlockCounts}
 use Rattle.references.specs.Agree.{BlockKeysAmong}
 use Rattle.slots.specs.Slots.{Index}
 use Rattle.sound_frames.specs.Frames.{framed}
-use Rattle.sound_behind.specs.declared.Judged.{Judged}
-use Rattle.sound_behind.specs.declared.Judged.TheVariants.{Right, Wrong}
 
 unfoldable pub behind : Context → File → List Row → Bool
 behind c f [] = true
 behind c f (r ∷ rs) = sound_later c f rs
 
-abbrev pub is_right : Judged → Bool
-is_right (Right used told) = true
-is_right Wrong = false
+abbrev pub is_right : Option (ℕ × Bool) → Bool
+is_right (Some (used, told)) = true
+is_right None = false
 
 -- whether its frame and the rows behind its first line's are as they should be, whatever context agrees with the lent tables' first rows; and where
 -- they are, how many rows are in use, and whether the slots `qs` are an index of all services
-pub record BlocksJudged (counts : BlockCounts) (co mo st fo : List ℕ) (form : Form) (delivery : Row) (t qs : List ℕ) (r : Judged) : Type 0 where
+pub record BlocksJudged (counts : BlockCounts) (co mo st fo : List ℕ) (form : Form) (delivery : Row) (t qs : List ℕ) (r : Option (ℕ × Bool)) : Type 0 where
   pub says :
       (c : Context) → BlockKeysAmong c counts co mo st fo
       → is_right r ≡ (framed form delivery Timetbls t && behind c Timetbls (rows_in Timetbls t))
-  pub rows : (n : ℕ) (x : Bool) → r ≡ Right n x → n ≡ length (rows_in Timetbls t)
-  pub index : (n : ℕ) (x : Bool) → r ≡ Right n x → x ≡ true → Index Timetbls t (length (rows_in Timetbls t)) (length qs) qs
+  pub rows : (n : ℕ) (x : Bool) → r ≡ Some (n, x) → n ≡ length (rows_in Timetbls t)
+  pub index : (n : ℕ) (x : Bool) → r ≡ Some (n, x) → x ≡ true → Index Timetbls t (length (rows_in Timetbls t)) (length qs) qs

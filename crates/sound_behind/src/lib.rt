@@ -11,13 +11,6 @@ ghost use Rattle.sound_behind.specs.Behind.{behind, BlocksJudged};
 
 use iff::{File, Form, GroupFile, RowFile, tags, words};
 
-// What is told of TIMETBLS: that it is right, how many of its rows are in use, and whether all of its services are in the index.
-#[derive(Clone, Copy)]
-pub enum Judged {
-    Right(usize, bool),
-    Wrong,
-}
-
 // A file of rows.
 pub fn are_rows_right(
     so_far: bool,
@@ -74,7 +67,8 @@ pub fn are_groups_right(
     )
 }
 
-// TIMETBLS, its frame with it: its rows are counted and what is told of its services is told where its blocks are tested.
+// TIMETBLS, its frame with it: its rows are counted and what is told of its services is told where its blocks are tested. Where it is right, how
+// many of its rows are in use, and whether all of its services are in the index.
 pub fn judge_blocks(
     t: &[u64],
     delivery: &[u64],
@@ -85,24 +79,29 @@ pub fn judge_blocks(
     stations: &[u64],
     footnotes: &[u64],
     places: &mut [u32],
-) -> Judged
+) -> Option<(usize, bool)>
     requires { (0 < length (rows_in Timetbls t.now)) × (5 ≤ length delivery.now) }
     ensures { BlocksJudged counts companies.now modes.now stations.now footnotes.now
         form delivery.now t.now places.new result }
 {
     if tables::word_or_zero(t, words::TAG) != tags::AT {
-        return Judged::Wrong;
+        return None;
     }
-    let sound_timetbls::BlocksAre::Sound(used, rise, told) = sound_timetbls::are_blocks_sound(
+    let blocks = sound_timetbls::are_blocks_sound(
         t, counts, companies, modes, stations, footnotes, places,
-    ) else {
-        return Judged::Wrong;
-    };
-    if !tables::zero_from(t, used * tables::BLOCK_WIDTH) {
-        return Judged::Wrong;
+    )?;
+    if !tables::zero_from(t, blocks.rows * tables::BLOCK_WIDTH) {
+        return None;
     }
-    if !sound_frames::are_rows_framed_by(File::Timetbls, t, used, delivery, form, rise) {
-        return Judged::Wrong;
+    if !sound_frames::are_rows_framed_by(
+        File::Timetbls,
+        t,
+        blocks.rows,
+        delivery,
+        form,
+        blocks.rise,
+    ) {
+        return None;
     }
-    Judged::Right(used, told)
+    Some((blocks.rows, blocks.indexed))
 }

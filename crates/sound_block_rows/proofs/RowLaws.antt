@@ -1,4 +1,5 @@
 -- Laws of one row of a block: each way out of its tests. Assumes nothing.
+use Rattle.std.specs.Prelude.{None, Option, Some}
 use Prim.Native.Nat.{ℕ, ◌+◌, ◌≤◌}
 use mathlib.Core.Path.{◌≡◌, refl, ap, sym, ◌∙◌}
 use mathlib.Core.List.{List, [], ◌∷◌}
@@ -19,7 +20,6 @@ use Rattle.iff.specs.declared.File.{File}
 use Rattle.iff.specs.declared.File.TheVariants.{Delivery, Rows, Groups, Timetbls}
 use Rattle.iff.specs.declared.Edition.TheVariants.{Iff424}
 use Rattle.iff.specs.declared.InBlock.{InBlock}
-use Rattle.iff.specs.declared.Next.TheVariants.{Goes, NotHere}
 use Rattle.iff.specs.declared.Stand.{Stand}
 use Rattle.iff_rules.specs.Order.{goes, is_goes, is_stop}
 use Rattle.iff_rules.specs.Rows.{Context}
@@ -33,8 +33,6 @@ use Rattle.references.specs.declared.BlockCounts.{BlockCounts}
 use Rattle.references.specs.Agree.{BlockKeysAmong}
 use Rattle.row_tests.specs.Tests.{row_tests}
 use Rattle.sound_block_rows.specs.Told.{RowTold}
-use Rattle.sound_block_rows.specs.declared.After.{After}
-use Rattle.sound_block_rows.specs.declared.After.TheVariants.{Stands, Unsound}
 
 -- THE TESTS of a row, as soundness lists them
 all_tests : (g s l m k : Bool) → all_of (g ∷ s ∷ l ∷ m ∷ k ∷ []) ≡ g && (l && (s && (m && k)))
@@ -75,7 +73,7 @@ abbrev lent_context : BlockCounts → List ℕ → List ℕ → List ℕ → Lis
 lent_context counts co mo st fo = record { form = record { days = 0; edition = Iff424 }; keys = lent_keys counts co mo st fo }
 
 module _ (counts : BlockCounts) (co mo st fo : List ℕ) (block : InBlock) (line : ℕ) (r : Row) where
-  abbrev Told : After → Type 0
+  abbrev Told : Option InBlock → Type 0
   Told a = RowTold counts co mo st fo block line r a
 
   abbrev sounds : Context → Bool
@@ -87,25 +85,25 @@ module _ (counts : BlockCounts) (co mo st fo : List ℕ) (block : InBlock) (line
       all_tests (is_goes (goes block.stand (tag r))) (shaped (fields_of c.form Timetbls (tag r)) (own_words r)) (eqb (line_number r) line)
       (block_meaning block.stops r) (met_in_block c r)
 
-  unsound : ((c : Context) → BlockKeysAmong c counts co mo st fo → false ≡ sounds c) → Told Unsound
+  unsound : ((c : Context) → BlockKeysAmong c counts co mo st fo → false ≡ sounds c) → Told None
   unsound says = record { says = says; leads = λ next q. absurd (let z : ◌≡◌ {A = ℕ} 0 1 = cc in omega arith) }
 
-  pub other_number : (line_number r ≡ line → ⊥) → Told Unsound
+  pub other_number : (line_number r ≡ line → ⊥) → Told None
   other_number n = unsound (λ c g. sym (as_tests c ∙ none (is_goes (goes block.stand (tag r))) (row_tests c block.stops r) (ne_eqb (line_number r) line n)))
     where
       none : (a b : Bool) → eqb (line_number r) line ≡ false → a && (eqb (line_number r) line && b) ≡ false
       none true b e = rw e
       none false b e = refl
 
-  pub not_here : goes block.stand (tag r) ≡ NotHere → Told Unsound
+  pub not_here : goes block.stand (tag r) ≡ None → Told None
   not_here e = unsound (λ c g. sym (as_tests c ∙ rw e))
 
-  module _ (n : line_number r ≡ line) (to : Stand) (e : goes block.stand (tag r) ≡ Goes to) (b : Bool)
+  module _ (n : line_number r ≡ line) (to : Stand) (e : goes block.stand (tag r) ≡ Some to) (b : Bool)
       (found : (c : Context) → BlockKeysAmong c counts co mo st fo → b ≡ row_tests c block.stops r) where
     rest_decides : (c : Context) → BlockKeysAmong c counts co mo st fo → b ≡ sounds c
     rest_decides c g = found c g ∙ sym (as_tests c ∙ rw (e, eq-eqb (line_number r) line n))
 
-    pub not_right : b ≡ false → Told Unsound
+    pub not_right : b ≡ false → Told None
     not_right f = unsound (λ c g. sym f ∙ rest_decides c g)
 
     -- the tests hold in the context of the lent tables, and so does the one of its times
@@ -119,7 +117,7 @@ module _ (counts : BlockCounts) (co mo st fo : List ℕ) (block : InBlock) (line
         (and_right (shaped (fields_of here.form Timetbls (tag r)) (own_words r)) (block_meaning block.stops r && met_in_block here r) meant)
 
     pub goes_on : b ≡ true → block.stops ≤ most_stops → (stops : ℕ) → stops ≡ block.stops + one (is_stop (tag r))
-        → Told (Stands (record { stand = to; stops = stops }))
+        → Told (Some (record { stand = to; stops = stops }))
     unfolding block_moves
     goes_on t few stops s =
         record {

@@ -1,5 +1,5 @@
 -- What the test of one row tells.
-use Rattle.std.specs.Prelude.{ℕ, ◌≤◌, ◌≡◌, List, Bool, true, false}
+use Rattle.std.specs.Prelude.{ℕ, ◌≤◌, ◌≡◌, List, Bool, true, false, None, Option, Some}
 use Rattle.iff.specs.Tables.{Row, tag}
 use Rattle.iff.specs.declared.InBlock.{InBlock}
 use Rattle.iff_rules.specs.Meaning.{most_stops}
@@ -8,12 +8,10 @@ use Rattle.iff_rules.specs.Load.{block_moves}
 use Rattle.iff_desk.specs.Sound.{sound_block_row}
 use Rattle.references.specs.declared.BlockCounts.{BlockCounts}
 use Rattle.references.specs.Agree.{BlockKeysAmong}
-use Rattle.sound_block_rows.specs.declared.After.{After}
-use Rattle.sound_block_rows.specs.declared.After.TheVariants.{Stands, Unsound}
 
-abbrev pub is_sound : After → Bool
-is_sound (Stands next) = true
-is_sound Unsound = false
+abbrev pub is_sound : Option InBlock → Bool
+is_sound (Some next) = true
+is_sound None = false
 
 -- where a row leads that is sound; the stops are still few
 pub record LeadsTo (block : InBlock) (row : Row) (next : InBlock) : Type 0 where
@@ -21,8 +19,8 @@ pub record LeadsTo (block : InBlock) (row : Row) (next : InBlock) : Type 0 where
   pub few : next.stops ≤ most_stops
 
 -- whether the row is sound, whatever context agrees with the lent tables' first rows; and where it leads
-pub record RowTold (counts : BlockCounts) (co mo st fo : List ℕ) (block : InBlock) (line : ℕ) (row : Row) (r : After) : Type 0 where
+pub record RowTold (counts : BlockCounts) (co mo st fo : List ℕ) (block : InBlock) (line : ℕ) (row : Row) (r : Option InBlock) : Type 0 where
   pub says :
       (c : Context) → BlockKeysAmong c counts co mo st fo
       → is_sound r ≡ sound_block_row c (record { block = block; line = line }) row
-  pub leads : (next : InBlock) → r ≡ Stands next → LeadsTo block row next
+  pub leads : (next : InBlock) → r ≡ Some next → LeadsTo block row next

@@ -11,13 +11,6 @@ ghost use Rattle.sound_block_rows.specs.Told.{RowTold};
 
 use iff::words;
 
-// Where a block stands after a row that is sound; or that the row is not.
-#[derive(Clone, Copy)]
-pub enum After {
-    Stands(iff::InBlock),
-    Unsound,
-}
-
 // One stop more after the record of a stop.
 fn stops_after(stops: u64, tag: u64) -> u64
     requires { stops ≤ most_stops }
@@ -29,7 +22,7 @@ fn stops_after(stops: u64, tag: u64) -> u64
     stops
 }
 
-// A row of a block, where the rows before it lead to `block`, as line `line` of the block.
+// A row of a block, where the rows before it lead to `block`, as line `line` of the block: where the block stands after it, if it is sound.
 pub fn after_row(
     row: &[u64],
     block: iff::InBlock,
@@ -40,27 +33,25 @@ pub fn after_row(
     stations: &[u64],
     footnotes: &[u64],
     places: &[u32],
-) -> After
+) -> Option<iff::InBlock>
     requires { (length row.now ≡ row_width Timetbls) × (block.stops ≤ most_stops) }
     ensures { RowTold counts companies.now modes.now stations.now footnotes.now
         block line row.now result }
 {
     let number = row[words::LINE_NUMBER];
     if number != line {
-        return After::Unsound;
+        return None;
     }
     let stand = block.stand;
     let tag = row[words::TAG];
-    let iff::Next::Goes(to) = order::goes_by_tag(stand, tag) else {
-        return After::Unsound;
-    };
+    let to = order::goes_by_tag(stand, tag)?;
     let stops = block.stops;
     if !row_tests::is_right(
         row, stops, counts, companies, modes, stations, footnotes, places,
     ) {
-        return After::Unsound;
+        return None;
     }
-    After::Stands(iff::InBlock {
+    Some(iff::InBlock {
         stand: to,
         stops: stops_after(stops, tag),
     })

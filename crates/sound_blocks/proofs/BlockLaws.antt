@@ -1,4 +1,5 @@
 -- One block, and then all of them: what each way out of the tests says. Assumes nothing.
+use Rattle.std.specs.Prelude.{None, Option, Some}
 use Prim.Native.Nat.{ℕ, zero, suc, ◌-◌, ◌≤◌, ◌<◌}
 use mathlib.Core.Path.{◌≡◌, refl, ap, sym, ◌∙◌}
 use mathlib.Core.List.{List, [], ◌∷◌}
@@ -24,11 +25,7 @@ use Rattle.row_legs.specs.Blocks.{BlockOfStops}
 use Rattle.walks.specs.Heads.{NextHead}
 use Rattle.walks.proofs.GroupLaws.{between_none, between_first, group_at_lem}
 use Rattle.sound_row_walks.specs.Walk.{BlockAt, rows_of, is_through, BlockWalked}
-use Rattle.sound_row_walks.specs.declared.Walked.{Walked}
-use Rattle.sound_row_walks.specs.declared.Walked.TheVariants.{Through, Unsound}
 use Rattle.sound_blocks.specs.Blocks.{group_of, is_sound, BlockTold}
-use Rattle.sound_blocks.specs.declared.Tested.{Tested}
-use Rattle.sound_blocks.specs.declared.Tested.TheVariants as tested
 use Rattle.sound_block_rows.proofs.TestLaws.{one_false}
 
 -- ONE BLOCK
@@ -57,16 +54,16 @@ as_tests c t from to h =
     ap (λ (n : ℕ). all_of (tests_of c top n (rows_of t from to))) (sym (rows_count t from (to - from)))
     ∙ ap (λ (rs : List Row). all_of (tests_of c top (length rs) rs)) (between_first (row_width Timetbls) t from to h)
 
-module _ (counts : BlockCounts) (co mo st fo t : List ℕ) (from used : ℕ) (at : BlockAt t from used) (w : Walked)
+module _ (counts : BlockCounts) (co mo st fo t : List ℕ) (from used : ℕ) (at : BlockAt t from used) (w : Option (InBlock × ℕ))
     (walk : BlockWalked counts co mo st fo t from used w) where
-  abbrev Told : Tested → Type 0
+  abbrev Told : Option ℕ → Type 0
   Told r = BlockTold counts co mo st fo t from used r
 
   some : from < walk.end
   some = omega (arith, walk.next.low)
 
   -- one test that does not hold
-  unsound : ((c : Context) → BlockKeysAmong c counts co mo st fo → false ≡ all_of (tests c t from walk.end)) → Told tested.Unsound
+  unsound : ((c : Context) → BlockKeysAmong c counts co mo st fo → false ≡ all_of (tests c t from walk.end)) → Told None
   unsound says =
       record {
         end = walk.end;
@@ -75,10 +72,10 @@ module _ (counts : BlockCounts) (co mo st fo t : List ℕ) (from used : ℕ) (at
         ended = λ to q. absurd (let z : ◌≡◌ {A = ℕ} 0 1 = cc in omega arith);
       }
 
-  pub unsound_row : w ≡ Unsound → Told tested.Unsound
+  pub unsound_row : w ≡ None → Told None
   unsound_row e = unsound (λ c g. one_false (tests c t from walk.end) 0 (sym (walk.says c g) ∙ ap is_through e))
 
-  module _ (block : InBlock) (to : ℕ) (e : w ≡ Through block to) where
+  module _ (block : InBlock) (to : ℕ) (e : w ≡ Some (block, to)) where
     pub is_end : to ≡ walk.end
     is_end = (walk.ended block to e).0
 
@@ -86,13 +83,13 @@ module _ (counts : BlockCounts) (co mo st fo t : List ℕ) (from used : ℕ) (at
     pub block_in : from ≤ to
     block_in = omega (arith, is_end, some)
 
-    pub other_lines : (line_count (row_at (row_width Timetbls) t from) ≡ to - from → ⊥) → Told tested.Unsound
+    pub other_lines : (line_count (row_at (row_width Timetbls) t from) ≡ to - from → ⊥) → Told None
     other_lines n = unsound (λ c g. one_false (tests c t from walk.end) 3 (ne_eqb _ _ (λ q. n (q ∙ ap (λ (k : ℕ). k - from) (sym is_end)))))
 
-    pub unfinished : finished block.stand ≡ false → Told tested.Unsound
+    pub unfinished : finished block.stand ≡ false → Told None
     unfinished n = unsound (λ c g. one_false (tests c t from walk.end) 1 (ap finished (walk.ended block to e).1.stand ∙ n))
 
-    pub other_stops : (stop_count (row_at (row_width Timetbls) t from) ≡ block.stops → ⊥) → Told tested.Unsound
+    pub other_stops : (stop_count (row_at (row_width Timetbls) t from) ≡ block.stops → ⊥) → Told None
     other_stops n =
         unsound (λ c g. one_false (tests c t from walk.end) 4 (ne_eqb _ _ (λ q. n (q ∙ sym (walk.ended block to e).1.stops))))
 
@@ -111,12 +108,12 @@ module _ (counts : BlockCounts) (co mo st fo t : List ℕ) (from used : ℕ) (at
       right : b ≡ legs reach_of (rows_of t from walk.end)
       right = l ∙ ap (λ (k : ℕ). legs reach_of (rows_of t from k)) is_end
 
-      pub other_legs : b ≡ false → Told tested.Unsound
+      pub other_legs : b ≡ false → Told None
       other_legs f = unsound (λ c g. one_false (tests c t from walk.end) 2 (sym right ∙ f))
 
       -- where all tests hold
       pub block_sound : line_count (row_at (row_width Timetbls) t from) ≡ to - from → finished block.stand ≡ true
-          → stop_count (row_at (row_width Timetbls) t from) ≡ block.stops → b ≡ true → Told (tested.Sound to)
+          → stop_count (row_at (row_width Timetbls) t from) ≡ block.stops → b ≡ true → Told (Some to)
       unfolding all_of
       block_sound n f s y =
           record {
@@ -188,7 +185,7 @@ module _ (counts : BlockCounts) (co mo st fo t : List ℕ) (used : ℕ) where
           ∙ stray_row c (row_at (row_width Timetbls) t i) (rows_of t (suc i) used) e)
 
       -- the block that begins in row i
-      module _ (head : is_hash_row (row_at (row_width Timetbls) t i) ≡ true) (b : Tested) (told : BlockTold counts co mo st fo t i used b) where
+      module _ (head : is_hash_row (row_at (row_width Timetbls) t i) ≡ true) (b : Option ℕ) (told : BlockTold counts co mo st fo t i used b) where
         one_more : (c : Context)
             → sound_timetbls c (rows_of t i used) ≡ (sound_block c (group_of t i told.end) && sound_timetbls c (rows_of t told.end used))
         unfolding all
@@ -199,10 +196,10 @@ module _ (counts : BlockCounts) (co mo st fo t : List ℕ) (used : ℕ) where
             ∙ ap (all (sound_block c)) (group_at_lem (row_width Timetbls) t i used told.end l head told.next)
             ∙ ap (λ (x : Bool). sound_block c (group_of t i told.end) && x) (sym (behind_block c t (suc i) used told.end told.next))
 
-        pub unsound_block : b ≡ tested.Unsound → AllSays false
+        pub unsound_block : b ≡ None → AllSays false
         unsound_block e c g = sym (p.says c g ∙ one_more c ∙ rw (sym (told.says c g) ∙ ap is_sound e))
 
-        module _ (to : ℕ) (e : b ≡ tested.Sound to) where
+        module _ (to : ℕ) (e : b ≡ Some to) where
           pub goes_on : Left counts co mo st fo t used to
           goes_on =
               rw (told.ended to e) record {

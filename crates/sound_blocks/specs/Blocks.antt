@@ -1,5 +1,5 @@
 -- What is told of a block.
-use Rattle.std.specs.Prelude.{ℕ, suc, ◌≡◌, List, Bool, true, false}
+use Rattle.std.specs.Prelude.{ℕ, suc, ◌≡◌, List, Bool, true, false, None, Option, Some}
 use Rattle.iff.specs.Lists.{Group}
 use Rattle.iff.specs.Tables.{Row, row_at, row_width}
 use Rattle.iff.specs.declared.File.TheVariants.{Timetbls}
@@ -9,20 +9,18 @@ use Rattle.references.specs.declared.BlockCounts.{BlockCounts}
 use Rattle.references.specs.Agree.{BlockKeysAmong}
 use Rattle.walks.specs.Heads.{NextHead}
 use Rattle.sound_row_walks.specs.Walk.{rows_of}
-use Rattle.sound_blocks.specs.declared.Tested.{Tested}
-use Rattle.sound_blocks.specs.declared.Tested.TheVariants as tested
 
 -- the block as a group
 abbrev pub group_of : List ℕ → ℕ → ℕ → Group Row
 group_of t from to = record { top = row_at (row_width Timetbls) t from; rest = rows_of t (suc from) to }
 
-abbrev pub is_sound : Tested → Bool
-is_sound (tested.Sound to) = true
-is_sound tested.Unsound = false
+abbrev pub is_sound : Option ℕ → Bool
+is_sound (Some to) = true
+is_sound None = false
 
 -- whether the block is sound
-pub record BlockTold (counts : BlockCounts) (co mo st fo t : List ℕ) (from used : ℕ) (r : Tested) : Type 0 where
+pub record BlockTold (counts : BlockCounts) (co mo st fo t : List ℕ) (from used : ℕ) (r : Option ℕ) : Type 0 where
   pub end : ℕ
   pub next : NextHead (row_width Timetbls) t (suc from) used end
   pub says : (c : Context) → BlockKeysAmong c counts co mo st fo → is_sound r ≡ sound_block c (group_of t from end)
-  pub ended : (to : ℕ) → r ≡ tested.Sound to → to ≡ end
+  pub ended : (to : ℕ) → r ≡ Some to → to ≡ end

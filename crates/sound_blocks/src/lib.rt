@@ -4,16 +4,7 @@
 ghost use Rattle.sound_row_walks.specs.Walk.{used_in, BlockAt};
 ghost use Rattle.sound_blocks.specs.Blocks.{BlockTold};
 
-use sound_row_walks::Walked;
-
-// The row behind a sound block.
-#[derive(Clone, Copy)]
-pub enum Tested {
-    Sound(usize),
-    Unsound,
-}
-
-// One block: its rows, that it may end with them, the counts of its `#` row, and the legs.
+// One block: its rows, that it may end with them, the counts of its `#` row, and the legs. The row behind it, if it is sound.
 pub fn test_block(
     t: &[u64],
     from: usize,
@@ -23,31 +14,29 @@ pub fn test_block(
     stations: &[u64],
     footnotes: &[u64],
     places: &[u32],
-) -> Tested
+) -> Option<usize>
     requires { BlockAt t.now from (used_in t.now) }
     ensures { BlockTold counts companies.now modes.now stations.now footnotes.now
         t.now from (used_in t.now) result }
 {
-    let Walked::Through(block, to) = sound_row_walks::walk_rows(
+    let (block, to) = sound_row_walks::walk_rows(
         t, from, counts, companies, modes, stations, footnotes, places,
-    ) else {
-        return Tested::Unsound;
-    };
+    )?;
     let lines = tables::word_at(t, tables::BLOCK_WIDTH, from, iff::words::LINE_COUNT);
     if lines != (to - from) as u64 {
-        return Tested::Unsound;
+        return None;
     }
     let stand = block.stand;
     if !order::is_finished(stand) {
-        return Tested::Unsound;
+        return None;
     }
     let stops = block.stops;
     let counted = tables::word_at(t, tables::BLOCK_WIDTH, from, iff::words::STOP_COUNT);
     if counted != stops {
-        return Tested::Unsound;
+        return None;
     }
     if !row_legs::are_right(t, from, to, stops) {
-        return Tested::Unsound;
+        return None;
     }
-    Tested::Sound(to)
+    Some(to)
 }

@@ -1,4 +1,5 @@
 -- "Periods of one zone do not overlap", in sound tables: one of them at most holds a day, so it is the zone's period on that day. Assumes nothing.
+use Rattle.std.specs.Prelude.{None, Option, Some}
 use Prim.Native.Nat.{ℕ, zero, suc, ◌<◌}
 use mathlib.Core.Path.{◌≡◌, refl, ap, sym, ◌∙◌}
 use mathlib.Core.List.{List, [], ◌∷◌, ◌++◌}
@@ -12,8 +13,6 @@ use Rattle.iff.specs.Lists.{Group, members, any, kept}
 use Rattle.iff.specs.Days.{day_of, in_turn, within}
 use Rattle.iff.specs.Tables.{Row, tag}
 use Rattle.iff.specs.Words.{period_first, period_last}
-use Rattle.iff.specs.declared.DayOf.{DayOf}
-use Rattle.iff.specs.declared.DayOf.TheVariants.{Day, NotADay}
 use Rattle.iff.specs.declared.GroupFile.TheVariants.{Timezone}
 use Rattle.iff.specs.declared.File.TheVariants.{Groups}
 use Rattle.iff_rules.specs.Rows.{Context, first_of}
@@ -26,15 +25,15 @@ use Rattle.tables.proofs.Each.{Each}
 use Rattle.sound_facts.proofs.RowFacts.{one_of, key_group, group_each, key_each, period_follows}
 
 -- PERIODS THAT SHARE A DAY overlap
-in_both : (a b c d : DayOf) (day : ℕ) → within a (Day day) b ≡ true → within c (Day day) d ≡ true → (in_turn a d && in_turn c b) ≡ true
-in_both (Day a) (Day b) (Day c) (Day d) day p q =
+in_both : (a b c d : Option ℕ) (day : ℕ) → within a (Some day) b ≡ true → within c (Some day) d ≡ true → (in_turn a d && in_turn c b) ≡ true
+in_both (Some a) (Some b) (Some c) (Some d) day p q =
     let x = both (leb a day) (leb day b) p in
     let y = both (leb c day) (leb day d) q in
     rw (le-leb a d (omega (arith, leb-true a day x.0, leb-true day d y.1)), le-leb c b (omega (arith, leb-true c day y.0, leb-true day b x.1)))
-in_both (Day a) (Day b) (Day c) NotADay day p q = absurd (true≢false (sym q))
-in_both (Day a) (Day b) NotADay d day p q = absurd (true≢false (sym q))
-in_both (Day a) NotADay c d day p q = absurd (true≢false (sym p))
-in_both NotADay b c d day p q = absurd (true≢false (sym p))
+in_both (Some a) (Some b) (Some c) None day p q = absurd (true≢false (sym q))
+in_both (Some a) (Some b) None d day p q = absurd (true≢false (sym q))
+in_both (Some a) None c d day p q = absurd (true≢false (sym p))
+in_both None b c d day p q = absurd (true≢false (sym p))
 
 shared : (day : ℕ) (x r : Row) → holds day x ≡ true → holds day r ≡ true → overlap x r ≡ true
 unfolding holds

@@ -1,12 +1,15 @@
 -- The tests of a first line's row, by what the code found. Assumes nothing.
-use Prim.Native.Nat.{suc, ◌≤◌, ◌<◌}
-use mathlib.Core.Path.{◌≡◌}
+use Prim.Native.Nat.{ℕ, suc, ◌≤◌, ◌<◌}
+use mathlib.Core.Path.{◌≡◌, refl, ap, sym, ◌∙◌}
 use mathlib.Core.List.{List, [], ◌∷◌}
-use mathlib.Core.Bool.{Bool, ◌&&◌, and-true}
+use mathlib.Core.Bool.{Bool, true, false, ◌&&◌, not, and-true}
 use native.Mathlib.Omega.{arith}
 use lib.Dec.{eqb}
 use lib.ListN.{length, take, drop}
 use lib.Seq.{drop-cons}
+use borrow.Author.Tests.{not-true, not-false}
+use Rattle.std.specs.Prelude.{nat_eq}
+use Rattle.std.specs.Cmp.Lexicographic.{pointwise}
 use Rattle.iff.specs.Bytes.{at}
 use Rattle.iff.specs.Lists.{all_of, all, all2, same}
 use Rattle.iff.specs.Columns.{first_fields, record_fields}
@@ -35,6 +38,21 @@ kept_shape form (a ∷ b ∷ []) h = absurd (omega arith)
 kept_shape form (a ∷ b ∷ c ∷ []) h = absurd (omega arith)
 kept_shape form (a ∷ b ∷ c ∷ d ∷ []) h = absurd (omega arith)
 kept_shape form (a ∷ b ∷ c ∷ d ∷ e ∷ r) h = and-true _
+
+-- the kept words are DELIVERY's
+same_by_pairs : (s t : List ℕ) → pointwise nat_eq s t ≡ same s t
+unfolding all2
+same_by_pairs [] [] = refl
+same_by_pairs [] (y ∷ t) = refl
+same_by_pairs (x ∷ s) [] = refl
+same_by_pairs (x ∷ s) (y ∷ t) = ap (λ (b : Bool). eqb x y && b) (same_by_pairs s t)
+
+module _ (s t : List ℕ) (ne : Bool) (e : ne ≡ not (pointwise nat_eq s t)) where
+  pub words_differ : ne ≡ true → same s t ≡ false
+  words_differ q = sym (same_by_pairs s t) ∙ not-true _ (sym e ∙ q)
+
+  pub words_same : ne ≡ false → same s t ≡ true
+  words_same q = sym (same_by_pairs s t) ∙ not-false _ (sym e ∙ q)
 
 -- what stands behind the flag
 pub zeros_behind : (f : File) (r : Row) (b : Bool) → line_one f ≡ [] → b ≡ all_zero (drop 6 r) → b ≡ behind_right f r

@@ -2,7 +2,6 @@
 #![tactic(auto)]
 
 ghost use Rattle.std.specs.Prelude.{◌≡◌, List, ◌≤◌, eqb, length};
-ghost use Rattle.iff.specs.Lists.{same};
 ghost use Rattle.iff.specs.Tables.{Row, row_width, keys_of, rising};
 ghost use Rattle.iff_rules.specs.Rows.{flag};
 ghost use Rattle.iff_desk.specs.Sound.{sound_first};
@@ -15,24 +14,6 @@ const ANY_FORM: Form = Form {
     days: 0,
     edition: Edition::Iff424,
 };
-
-// The same words.
-fn same_words(a: &[u64], b: &[u64]) -> bool
-    ensures { result ≡ same a.now b.now }
-{
-    if a.len() != b.len() {
-        return false;
-    }
-    let mut words_left = a.len();
-    while 0 < words_left {
-        let i = a.len() - words_left;
-        if a[i] != b[i] {
-            return false;
-        }
-        words_left -= 1;
-    }
-    true
-}
 
 // A word says this flag.
 fn is_flag(word: u64, b: bool) -> bool
@@ -77,7 +58,7 @@ pub fn is_first_sound(file: File, row: &[u64], delivery: &[u64], rises: bool) ->
     if !meanings::first_means(row) {
         return false;
     }
-    if !same_words(&row[..words::RISES], &delivery[..words::RISES]) {
+    if row[..words::RISES] != delivery[..words::RISES] {
         return false;
     }
     if !is_flag(row[words::RISES], rises) {

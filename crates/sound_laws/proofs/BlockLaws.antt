@@ -1,5 +1,6 @@
 -- A line of a block that passes its tests leaves a row that is sound. The row has its own words, which the number of stops settles, its number
 -- in the block, and at the `#` the block's counts; the rules read what the line's own row has. Assumes nothing.
+use Rattle.std.specs.Prelude.{Ok, Option}
 use Prim.Native.Nat.{ℕ, suc}
 use mathlib.Core.Path.{◌≡◌, refl, ap, ◌∙◌}
 use mathlib.Core.List.{List, [], ◌∷◌, ◌++◌, append-nil}
@@ -20,8 +21,6 @@ use Rattle.iff.specs.Words.{line_number, line_count, stop_count}
 use Rattle.iff.specs.declared.File.TheVariants.{Timetbls}
 use Rattle.iff.specs.declared.Form.{Form}
 use Rattle.iff.specs.declared.InBlock.{InBlock}
-use Rattle.iff.specs.declared.Place.{Place}
-use Rattle.iff.specs.declared.Verdict.TheVariants.{Fine}
 use Rattle.iff_rules.specs.Order.{known_in_block, goes, is_goes}
 use Rattle.iff_rules.specs.Rows.{counts, line_words, row_of, block_row, block_rows_from, Context}
 use Rattle.iff_rules.specs.Meaning.{block_meaning}
@@ -39,6 +38,7 @@ use Rattle.block_rows.proofs.RowLaws.{block_row_length}
 use Rattle.sound_laws.proofs.WordLaws.{line_shaped}
 use Rattle.sound_laws.proofs.PassLaws.{all_hold}
 use Rattle.sound_laws.proofs.RowLaws.{fields_turn, Read, its_fields}
+use Rattle.iff.specs.declared.Place.{Place}
 
 -- what holds of every letter of a block holds of a letter that is known
 has_one : (P : ℕ → Type 0) (x k : ℕ) (ks : List ℕ) → has x (k ∷ ks) ≡ true → P k → (has x ks ≡ true → P x) → P x
@@ -156,8 +156,8 @@ module _ (form : Form) (n k j : ℕ) (l : Line) where
       = same_length column l.body (picture (its_fields form Timetbls l)) (and_right l.ended _ e) in
       rw (tag_is form n k j l, ← m, and_left l.ended (fits l.body (picture (its_fields form Timetbls l))) e)
 
-module _ (c : Context) (seen : List ℕ) (st : InBlock) (p : Place) (l : Line) (bytes : Each 256 l.body)
-    (e : verdict_at p (block_test c seen st l) ≡ Fine) where
+module _ (c : Context) (seen : List ℕ) (st : InBlock) (p : Option Place) (l : Line) (bytes : Each 256 l.body)
+    (e : verdict_at p (block_test c seen st l) ≡ Ok tt) where
   pub block_seven : Seven (asked_in_block c seen st l)
   unfolding block_test
   block_seven = (line_passes _).0 (verdict_fine p (block_test c seen st l) e)

@@ -1,4 +1,5 @@
 -- A FILE without fault leaves rows that are sound: the first line's, and those behind it, by the kind of file. Assumes nothing.
+use Rattle.std.specs.Prelude.{Ok, Option}
 use Prim.Native.Nat.{ℕ, suc, ◌+◌, ◌-◌, ◌≤◌, ◌<◌}
 use mathlib.Core.Path.{◌≡◌, refl, ap, sym, ◌∙◌}
 use mathlib.Core.List.{List, [], ◌∷◌, ◌++◌, append_assoc}
@@ -10,7 +11,7 @@ use borrow.Author.Tests.{eq-eqb, le-leb}
 use Rattle.iff.specs.Bytes.{at}
 use Rattle.iff.specs.Lists.{all, all2, same, total, kept}
 use Rattle.iff.specs.Files.{limit}
-use Rattle.iff.specs.Refusals.{verdict_at}
+use Rattle.iff.specs.Refusals.{verdict_at, at_place}
 use Rattle.iff.specs.Lines.{Line, size, no_line}
 use Rattle.iff.specs.Columns.{first_fields, picture, column, fits, laid}
 use Rattle.iff.specs.Values.{readable, words, field_words, words_right}
@@ -21,9 +22,6 @@ use Rattle.iff.specs.declared.GroupFile.TheVariants.{Timezone, Footnote, Changes
 use Rattle.iff.specs.declared.File.{File}
 use Rattle.iff.specs.declared.File.TheVariants.{Delivery, Rows, Groups, Timetbls}
 use Rattle.iff.specs.declared.Form.{Form}
-use Rattle.iff.specs.declared.Place.{Place}
-use Rattle.iff.specs.declared.Place.TheVariants.{At}
-use Rattle.iff.specs.declared.Verdict.TheVariants.{Fine}
 use Rattle.iff_rules.specs.Order.{line_test, stray_tests}
 use Rattle.iff_rules.specs.Rows.{first_row_of, later_rows, rows_of_lines, flag, line_one, first_of, Context}
 use Rattle.iff_rules.specs.Meaning.{first_meaning}
@@ -39,6 +37,7 @@ use Rattle.sound_laws.proofs.PassLaws.{all_hold}
 use Rattle.sound_laws.proofs.PlainLaws.{InBytes, plain_sound, plain_distinct, plain_sizes}
 use Rattle.sound_laws.proofs.GroupLaws.{groups_sound, groups_distinct, groups_sizes}
 use Rattle.sound_laws.proofs.TimetblsLaws.{timetbls_sound_lem, timetbls_distinct, timetbls_sizes}
+use Rattle.iff.specs.declared.Place.{Place}
 
 -- A FIRST LINE that passed, in a delivery whose first line is `header`
 pub record FirstFine (header : List ℕ) (l : Line) : Type 0 where
@@ -47,8 +46,8 @@ pub record FirstFine (header : List ℕ) (l : Line) : Type 0 where
   pub reads : readable l.body first_fields ≡ true
   pub means : first_meaning (first_row_of Delivery true l) ≡ true
 
-first_fine : (header : List ℕ) (b : Bool) (p : Place) (l : Line) → (b ≡ true → l.body ≡ header)
-    → verdict_at p (first_line_test b l) ≡ Fine → FirstFine header l
+first_fine : (header : List ℕ) (b : Bool) (p : Option Place) (l : Line) → (b ≡ true → l.body ≡ header)
+    → verdict_at p (first_line_test b l) ≡ Ok tt → FirstFine header l
 unfolding first_line_test
 first_fine header b p l same e =
     let s = (line_passes _).0 (verdict_fine p (first_line_test b l) e) in
@@ -138,9 +137,9 @@ module _ (header : List ℕ) (f : File) (l : Line) (bytes : InBytes l) (p : Firs
 -- THE LINES BEHIND IT: a file's verdict on them; DELIVERY has none
 abbrev pub LaterFine : Context → File → List Line → Type 0
 LaterFine c Delivery ls = ls ≡ []
-LaterFine c (Rows f) ls = later_verdict c (Rows f) ls ≡ Fine
-LaterFine c (Groups f) ls = later_verdict c (Groups f) ls ≡ Fine
-LaterFine c Timetbls ls = later_verdict c Timetbls ls ≡ Fine
+LaterFine c (Rows f) ls = later_verdict c (Rows f) ls ≡ Ok tt
+LaterFine c (Groups f) ls = later_verdict c (Groups f) ls ≡ Ok tt
+LaterFine c Timetbls ls = later_verdict c Timetbls ls ≡ Ok tt
 
 pub record LaterSound (c : Context) (f : File) (ls : List Line) : Type 0 where
   pub sound_rows_lem : sound_later c f (later_rows c.form f ls) ≡ true
@@ -182,19 +181,19 @@ rows_sound c header delivery d f (l ∷ ls) u p h =
     )
 
 -- what the verdicts say
-no_second : (ls : List Line) → second ls ≡ Fine → ls ≡ []
+no_second : (ls : List Line) → second ls ≡ Ok tt → ls ≡ []
 no_second [] e = refl
-no_second (l ∷ ls) e = absurd (false≢true ((line_passes (stray_tests true)).0 (verdict_fine (At Delivery 0 2) (line_test (stray_tests true)) e)).is_here)
+no_second (l ∷ ls) e = absurd (false≢true ((line_passes (stray_tests true)).0 (verdict_fine (at_place Delivery 0 2) (line_test (stray_tests true)) e)).is_here)
 
-pub delivery_fine : (c : Context) (ls : List Line) → delivery_verdict ls ≡ Fine → FileFine c (get_or ls 0 no_line).body Delivery ls
+pub delivery_fine : (c : Context) (ls : List Line) → delivery_verdict ls ≡ Ok tt → FileFine c (get_or ls 0 no_line).body Delivery ls
 unfolding delivery_verdict
 delivery_fine c [] e = tt
 delivery_fine c (l ∷ ls) e =
     let z = cons_fine _ _ e in
     (first_fine l.body true _ l (λ q. refl) z.0, no_second ls (cons_fine _ _ z.1).0)
 
-module _ (c : Context) (header : List ℕ) (f : File) (later : (ls : List Line) → later_verdict c f ls ≡ Fine → LaterFine c f ls) where
-  pub file_fine : (ls : List Line) → file_verdict c header f ls ≡ Fine → FileFine c header f ls
+module _ (c : Context) (header : List ℕ) (f : File) (later : (ls : List Line) → later_verdict c f ls ≡ Ok tt → LaterFine c f ls) where
+  pub file_fine : (ls : List Line) → file_verdict c header f ls ≡ Ok tt → FileFine c header f ls
   unfolding file_verdict
   file_fine [] e = tt
   file_fine (l ∷ ls) e =

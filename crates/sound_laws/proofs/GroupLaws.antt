@@ -1,4 +1,5 @@
 -- A FILE OF GROUPS: lines without fault leave groups of rows that are sound, keys that are distinct, and their length. Assumes nothing.
+use Rattle.std.specs.Prelude.{Ok}
 use Prim.Native.Nat.{ℕ}
 use mathlib.Core.Path.{◌≡◌, refl, ap, ◌∙◌}
 use mathlib.Core.List.{List, [], ◌∷◌, ◌++◌, map}
@@ -7,14 +8,12 @@ use lib.Dec.{eqb}
 use borrow.Author.Tests.{eqb-true}
 use Rattle.iff.specs.Bytes.{hash}
 use Rattle.iff.specs.Lists.{Group, front, groups, members, has, kept, total}
-use Rattle.iff.specs.Refusals.{verdict_at, scan, after}
+use Rattle.iff.specs.Refusals.{verdict_at, scan, after, at_place}
 use Rattle.iff.specs.Lines.{Line, letter, is_hash, size}
 use Rattle.iff.specs.Tables.{Row, tag, word, is_hash_row, keys_of}
 use Rattle.iff.specs.Words.{named}
 use Rattle.iff.specs.declared.GroupFile.{GroupFile}
 use Rattle.iff.specs.declared.File.TheVariants.{Groups}
-use Rattle.iff.specs.declared.Place.TheVariants.{At}
-use Rattle.iff.specs.declared.Verdict.TheVariants.{Fine}
 use Rattle.iff_rules.specs.Order.{known_in_group, may_follow, group_stand, may_end}
 use Rattle.iff_rules.specs.Rows.{row_of, blocks_of, Context}
 use Rattle.iff_rules.specs.Unique.{fresh_key, fresh_in_group}
@@ -42,9 +41,9 @@ module _ (c : Context) (f : GroupFile) where
   group_row g = group_to is_hash is_hash_row row opens_same g
 
   -- A GROUP
-  module _ (seen : List ℕ) (i : ℕ) (g : Group Line) (bytes : Each InBytes (members g)) (e : group_verdict c f seen i g ≡ Fine) where
-    lines_fine : scan (λ earlier k l. verdict_at (At (Groups f) 0 k) (group_test c f seen earlier l)) (λ earlier l. earlier ++ (row l ∷ [])) [] i (members g)
-        ≡ Fine
+  module _ (seen : List ℕ) (i : ℕ) (g : Group Line) (bytes : Each InBytes (members g)) (e : group_verdict c f seen i g ≡ Ok tt) where
+    lines_fine : scan (λ earlier k l. verdict_at (at_place (Groups f) 0 k) (group_test c f seen earlier l)) (λ earlier l. earlier ++ (row l ∷ [])) [] i (members g)
+        ≡ Ok tt
     unfolding group_verdict
     lines_fine = (cons_fine _ _ e).0
 
@@ -56,12 +55,12 @@ module _ (c : Context) (f : GroupFile) where
     unfolding sound_group
     group_sound =
         and_both
-        (scan_passes (λ earlier k l. verdict_at (At (Groups f) 0 k) (group_test c f seen earlier l)) (λ earlier l. earlier ++ (row l ∷ [])) InBytes
+        (scan_passes (λ earlier k l. verdict_at (at_place (Groups f) 0 k) (group_test c f seen earlier l)) (λ earlier l. earlier ++ (row l ∷ [])) InBytes
         (sound_group_row c f) followed_by (λ earlier k. earlier) (λ k l. row l) (λ k ls. map row ls)
         (record {
           none = λ k. refl;
           one_more = λ k x xs. refl;
-          is_ok = λ earlier k l u q. group_row_lem c f seen earlier (At (Groups f) 0 k) l u q;
+          is_ok = λ earlier k l u q. group_row_lem c f seen earlier (at_place (Groups f) 0 k) l u q;
           moves = λ earlier k l. refl;
         })
         [] i (members g) bytes lines_fine)
@@ -70,25 +69,25 @@ module _ (c : Context) (f : GroupFile) where
     group_laid : Each (Laid c.form (Groups f)) (members g)
     group_laid =
         scan_each _ _ InBytes (Laid c.form (Groups f))
-        (λ earlier k l u q. (group_seven c f seen earlier (At (Groups f) 0 k) l u q).is_laid_out) [] i (members g) bytes lines_fine
+        (λ earlier k l u q. (group_seven c f seen earlier (at_place (Groups f) 0 k) l u q).is_laid_out) [] i (members g) bytes lines_fine
 
     -- its `#` is that of no group before
     group_fresh : not (has (key_of c.form f g) seen) ≡ true
     unfolding scan fresh_key may_follow group_stand after
     group_fresh =
-        let first = (or_fine (verdict_at (At (Groups f) 0 i) (group_test c f seen [] g.top)) _ lines_fine).0 in
-        let s = group_seven c f seen [] (At (Groups f) 0 i) g.top bytes.0 first in
+        let first = (or_fine (verdict_at (at_place (Groups f) 0 i) (group_test c f seen [] g.top)) _ lines_fine).0 in
+        let s = group_seven c f seen [] (at_place (Groups f) 0 i) g.top bytes.0 first in
         let z : tag (row g.top) ≡ hash = row_tag c.form (Groups f) g.top ∙ eqb-true _ _ s.is_here in
         let u = (both (fresh_key (Groups f) seen (row g.top)) (fresh_in_group f [] (row g.top)) s.is_fresh).0 in
         rw z at u
 
   -- THE FILE
-  module _ (ls : List Line) (bytes : Each InBytes ls) (e : groups_verdict c f ls ≡ Fine) where
+  module _ (ls : List Line) (bytes : Each InBytes ls) (e : groups_verdict c f ls ≡ Ok tt) where
     no_stray : front is_hash ls ≡ []
     unfolding groups_verdict
     no_stray = stray_none (Groups f) (known_in_group f) (front is_hash ls) (cons_fine _ _ e).0
 
-    groups_fine : scan (λ (b : Between) o g. group_verdict c f b.seen b.line g) (after_group c f) (record { seen = []; line = 2 }) 1 (blocks_of ls) ≡ Fine
+    groups_fine : scan (λ (b : Between) o g. group_verdict c f b.seen b.line g) (after_group c f) (record { seen = []; line = 2 }) 1 (blocks_of ls) ≡ Ok tt
     unfolding groups_verdict
     groups_fine = (cons_fine _ _ (cons_fine _ _ e).1).0
 
@@ -124,7 +123,7 @@ module _ (c : Context) (f : GroupFile) where
       go true q = ap (λ (ks : List ℕ). named (row l) ∷ ks) q
       go false q = q
 
-  pub groups_distinct : (ls : List Line) → Each InBytes ls → groups_verdict c f ls ≡ Fine → distinct (keys_of (Groups f) (map row ls)) ≡ true
+  pub groups_distinct : (ls : List Line) → Each InBytes ls → groups_verdict c f ls ≡ Ok tt → distinct (keys_of (Groups f) (map row ls)) ≡ true
   unfolding distinct
   groups_distinct ls bytes e =
       rw (keys_of_groups ls)

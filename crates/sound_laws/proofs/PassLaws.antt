@@ -1,13 +1,12 @@
 -- A scan of lines without fault is a pass over their rows, in the states that belong to each other. Laws over plain lists. Assumes nothing.
+use Rattle.std.specs.Prelude.{Ok}
 use Prim.Native.Nat.{ℕ, suc, ◌+◌}
 use mathlib.Core.Path.{◌≡◌, refl, ap}
 use mathlib.Core.List.{List, [], ◌∷◌, ◌++◌, map}
 use mathlib.Core.Bool.{Bool, true, false, cond}
 use native.Mathlib.Omega.{arith}
 use Rattle.iff.specs.Lists.{Group, front, groups, members, all, all_of, any, total}
-use Rattle.iff.specs.Refusals.{scan}
-use Rattle.iff.specs.declared.Verdict.{Verdict}
-use Rattle.iff.specs.declared.Verdict.TheVariants.{Fine}
+use Rattle.iff.specs.Refusals.{scan, Verdict}
 use Rattle.iff_laws.specs.ScanLaws.{or_fine}
 use Rattle.iff_laws.specs.TruthLaws.{and_both}
 use Rattle.iff_desk.specs.Sound.{passes}
@@ -19,10 +18,10 @@ module _ {S A : Type 0} (test : S → ℕ → A → Verdict) (next : S → A →
     pub record Pairs : Type 0 where
       pub none : (i : ℕ) → all-leave i [] ≡ []
       pub one_more : (i : ℕ) (x : A) (xs : List A) → all-leave i (x ∷ xs) ≡ leaves i x ∷ all-leave (suc i) xs
-      pub is_ok : (st : S) (i : ℕ) (x : A) → P x → test st i x ≡ Fine → ok (view st i) (leaves i x) ≡ true
+      pub is_ok : (st : S) (i : ℕ) (x : A) → P x → test st i x ≡ Ok tt → ok (view st i) (leaves i x) ≡ true
       pub moves : (st : S) (i : ℕ) (x : A) → view (next st x) (suc i) ≡ move (view st i) (leaves i x)
 
-    pub scan_passes : Pairs → (st : S) (i : ℕ) (xs : List A) → Each P xs → scan test next st i xs ≡ Fine
+    pub scan_passes : Pairs → (st : S) (i : ℕ) (xs : List A) → Each P xs → scan test next st i xs ≡ Ok tt
         → passes ok move (view st i) (all-leave i xs) ≡ true
     unfolding scan passes
     scan_passes p st i [] u e = rw (p.none i)
@@ -33,8 +32,8 @@ module _ {S A : Type 0} (test : S → ℕ → A → Verdict) (next : S → A →
         (rw (← (p.moves st i x)) (scan_passes p (next st x) (suc i) xs u.1 z.1)))
 
   -- what each entry of a scan without fault has
-  module _ (Q : A → Type 0) (h : (st : S) (i : ℕ) (x : A) → P x → test st i x ≡ Fine → Q x) where
-    pub scan_each : (st : S) (i : ℕ) (xs : List A) → Each P xs → scan test next st i xs ≡ Fine → Each Q xs
+  module _ (Q : A → Type 0) (h : (st : S) (i : ℕ) (x : A) → P x → test st i x ≡ Ok tt → Q x) where
+    pub scan_each : (st : S) (i : ℕ) (xs : List A) → Each P xs → scan test next st i xs ≡ Ok tt → Each Q xs
     unfolding scan
     scan_each st i [] u e = tt
     scan_each st i (x ∷ xs) u e =

@@ -1,4 +1,5 @@
 -- A line that passes its tests leaves a row that is sound: of a file of rows, of a group. Assumes nothing.
+use Rattle.std.specs.Prelude.{Ok, Option}
 use Prim.Native.Nat.{ℕ}
 use mathlib.Core.Path.{◌≡◌, refl, ap, ◌∙◌}
 use mathlib.Core.List.{List}
@@ -19,10 +20,8 @@ use Rattle.iff.specs.declared.File.TheVariants.{Delivery, Rows, Groups, Timetbls
 use Rattle.iff.specs.declared.Edition.{Edition}
 use Rattle.iff.specs.declared.Edition.TheVariants.{Iff424}
 use Rattle.iff.specs.declared.Form.{Form}
-use Rattle.iff.specs.declared.Place.{Place}
 use Rattle.iff.specs.declared.Record.{Record}
 use Rattle.iff.specs.declared.Record.TheVariants.{FirstRecord, CompanyRow, CountryRow, ModeRow, ZoneHead, ZonePeriod, StationRow, FootnoteHead, FootnoteVector, ServiceHead, TrainNumber, Validity, Transport, Attribute, PlainStop, Interval, Passed, Platform, ChangeHead, ChangePair, ChangeException}
-use Rattle.iff.specs.declared.Verdict.TheVariants.{Fine}
 use Rattle.iff_rules.specs.Order.{vector_tag, group_tag, tag_of, may_follow, group_stand}
 use Rattle.iff_rules.specs.Rows.{row_of, Context}
 use Rattle.iff_rules.specs.Unique.{fresh_key}
@@ -37,6 +36,7 @@ use Rattle.text.proofs.PackLaws.{Each}
 use Rattle.records.proofs.FileLaws.{row_tag}
 use Rattle.sound_laws.proofs.WordLaws.{in_turn, line_shaped}
 use Rattle.sound_laws.proofs.PassLaws.{all_hold}
+use Rattle.iff.specs.declared.Place.{Place}
 
 -- THE FIELDS OF EVERY RECORD ARE IN TURN
 turn_in : (days : ℕ) (edition : Edition) (r : Record) → in_turn 1 (record_fields (record { days = days; edition = edition }) r) ≡ true
@@ -123,8 +123,8 @@ module _ (form : Form) (f : File) (l : Line) where
       rw (fields_same, ← n, and_left l.ended (fits l.body (picture its_fields)) e)
 
 -- A ROW of a file of rows
-module _ (c : Context) (f : RowFile) (earlier : List Line) (p : Place) (l : Line) (bytes : Each 256 l.body)
-    (e : verdict_at p (plain_test c f earlier l) ≡ Fine) where
+module _ (c : Context) (f : RowFile) (earlier : List Line) (p : Option Place) (l : Line) (bytes : Each 256 l.body)
+    (e : verdict_at p (plain_test c f earlier l) ≡ Ok tt) where
   pub plain_seven : Seven (asked_of_row c f earlier l)
   unfolding plain_test
   plain_seven = (line_passes _).0 (verdict_fine p (plain_test c f earlier l) e)
@@ -149,8 +149,8 @@ module _ (c : Context) (f : RowFile) (earlier : List Line) (p : Place) (l : Line
       )
 
 -- A ROW of a group
-module _ (c : Context) (f : GroupFile) (seen : List ℕ) (earlier : List Row) (p : Place) (l : Line) (bytes : Each 256 l.body)
-    (e : verdict_at p (group_test c f seen earlier l) ≡ Fine) where
+module _ (c : Context) (f : GroupFile) (seen : List ℕ) (earlier : List Row) (p : Option Place) (l : Line) (bytes : Each 256 l.body)
+    (e : verdict_at p (group_test c f seen earlier l) ≡ Ok tt) where
   pub group_seven : Seven (asked_in_group c f seen earlier l)
   unfolding group_test
   group_seven = (line_passes _).0 (verdict_fine p (group_test c f seen earlier l) e)

@@ -1,4 +1,5 @@
 -- LAW: AN ACCEPTED LOAD IS SOUND. Over the definitions alone; it assumes that the files' bytes are bytes, and nothing else.
+use Rattle.std.specs.Prelude.{Err, Ok}
 use Prim.Native.Nat.{ℕ, suc, ◌-◌, ◌*◌, ◌/◌, ◌≤◌, ◌<◌}
 use mathlib.Core.Path.{◌≡◌, refl, ap, sym, ◌∙◌}
 use mathlib.Core.List.{List, [], ◌∷◌}
@@ -10,7 +11,7 @@ use lib.ListN.{length}
 use borrow.Author.Tests.{ltb-true, lt-ltb}
 use Rattle.iff.specs.Lists.{all}
 use Rattle.iff.specs.Files.{PerFile, of, per_file, in_order, needed}
-use Rattle.iff.specs.Refusals.{fine}
+use Rattle.iff.specs.Refusals.{fine, Verdict}
 use Rattle.iff.specs.Lines.{Line, lines}
 use Rattle.iff.specs.Values.{words, field_words}
 use Rattle.iff.specs.Tables.{Row, row_width, padded, fill, rows_in}
@@ -23,8 +24,6 @@ use Rattle.iff.specs.declared.GroupFile.TheVariants.{Timezone, Footnote, Changes
 use Rattle.iff.specs.declared.File.{File}
 use Rattle.iff.specs.declared.File.TheVariants.{Delivery, Rows, Groups, Timetbls}
 use Rattle.iff.specs.declared.Form.{Form}
-use Rattle.iff.specs.declared.Verdict.{Verdict}
-use Rattle.iff.specs.declared.Verdict.TheVariants.{Fine, Fault}
 use Rattle.iff_rules.specs.Rows.{first_row_of, rows_of_lines, rows_of_files, delivery_rows, form_of, first_of, Context, context_of}
 use Rattle.iff_rules.specs.References.{names}
 use Rattle.iff_rules.specs.Load.{delivery_verdict, header_of, read_file, contents_verdict, load_verdict, filled, load_table}
@@ -33,7 +32,6 @@ use Rattle.iff_laws.specs.TruthLaws.{and_both, says_itself, says_lt, says_where}
 use Rattle.iff_laws.specs.Meets.{Meets}
 use Rattle.iff_laws.proofs.MeetsLaws.{fine_exactly}
 use Rattle.iff_desk.specs.Sound.{rows_of_tables, held_in, sound_rows, sound_table, sound}
-use Rattle.text.proofs.PackLaws.{Each as EachByte}
 use Rattle.tables.proofs.Each.{Each}
 use Rattle.tables.proofs.Rows.{Used}
 use Rattle.tables.proofs.Widths.{widths}
@@ -111,7 +109,7 @@ held_delivery form [] = record { used = tt; few_rows = omega arith }
 held_delivery form (l ∷ ls) = record { used = ((refl, refl), tt); few_rows = omega arith }
 
 -- A LOAD WITHOUT FAULT
-module _ (F : PerFile (List ℕ)) (R : PerFile ℕ) (bytes : OfBytes F) (e : load_verdict F R ≡ Fine) where
+module _ (F : PerFile (List ℕ)) (R : PerFile ℕ) (bytes : OfBytes F) (e : load_verdict F R ≡ Ok tt) where
   abbrev D : PerFile (List Row)
   D = rows_of_files F
 
@@ -132,11 +130,11 @@ module _ (F : PerFile (List ℕ)) (R : PerFile ℕ) (bytes : OfBytes F) (e : loa
   own_form = ap (λ (rs : List Row). form_of (first_of rs)) (delivery_formless form (form424 0) (lines F.delivery))
 
   -- its verdicts, file by file
-  contents : contents_verdict c D F ≡ Fine
+  contents : contents_verdict c D F ≡ Ok tt
   unfolding load_verdict
   contents = no_fault_all _ e 3 (omega arith)
 
-  delivery_read : delivery_verdict (lines F.delivery) ≡ Fine
+  delivery_read : delivery_verdict (lines F.delivery) ≡ Ok tt
   unfolding contents_verdict
   delivery_read = no_fault_all _ contents 0 (omega arith)
 
@@ -144,14 +142,14 @@ module _ (F : PerFile (List ℕ)) (R : PerFile ℕ) (bytes : OfBytes F) (e : loa
   unfolding contents_verdict
   company_named_lem = unless_passes _ _ (verdict_fine _ _ (no_fault_all _ contents 2 (omega arith)))
 
-  rows_read : (f : RowFile) → read_file c F (Rows f) ≡ Fine
+  rows_read : (f : RowFile) → read_file c F (Rows f) ≡ Ok tt
   unfolding contents_verdict
   rows_read Company = no_fault_all _ contents 1 (omega arith)
   rows_read Country = no_fault_all _ contents 3 (omega arith)
   rows_read Trnsmode = no_fault_all _ contents 4 (omega arith)
   rows_read Stations = no_fault_all _ contents 6 (omega arith)
 
-  groups_read : (f : GroupFile) → read_file c F (Groups f) ≡ Fine
+  groups_read : (f : GroupFile) → read_file c F (Groups f) ≡ Ok tt
   unfolding contents_verdict
   groups_read Timezone = no_fault_all _ contents 5 (omega arith)
   groups_read Footnote = no_fault_all _ contents 7 (omega arith)
@@ -159,7 +157,7 @@ module _ (F : PerFile (List ℕ)) (R : PerFile ℕ) (bytes : OfBytes F) (e : loa
   groups_read Xfootnote = no_fault_all _ contents 10 (omega arith)
   groups_read Xchanges = no_fault_all _ contents 11 (omega arith)
 
-  pub timetbls_read : read_file c F Timetbls ≡ Fine
+  pub timetbls_read : read_file c F Timetbls ≡ Ok tt
   unfolding contents_verdict
   timetbls_read = no_fault_all _ contents 8 (omega arith)
 
@@ -228,5 +226,5 @@ pub accepted_is_sound : (F : PerFile (List ℕ)) (R : PerFile ℕ) → OfBytes F
 accepted_is_sound F R bytes a = go (load_verdict F R) refl a
   where
     go : (v : Verdict) → load_verdict F R ≡ v → fine v ≡ true → sound (per_file (λ f. load_table f F R)) ≡ true
-    go Fine e q = faultless_sound F R bytes e
-    go (Fault r p) e q = absurd (false≢true q)
+    go (Ok _) e q = faultless_sound F R bytes e
+    go (Err fault) e q = absurd (false≢true q)

@@ -1,4 +1,5 @@
 -- TIMETBLS: lines without fault leave blocks of rows that are sound, services that are distinct, and their length. Assumes nothing.
+use Rattle.std.specs.Prelude.{None, Ok, Some}
 use Prim.Native.Nat.{ℕ, suc, ◌+◌}
 use mathlib.Core.Path.{◌≡◌, refl, ap, sym, ◌∙◌}
 use mathlib.Core.List.{List, [], ◌∷◌, ◌++◌, map}
@@ -8,15 +9,12 @@ use lib.Dec.{eqb}
 use borrow.Author.Tests.{eqb-true, eq-eqb}
 use Rattle.iff.specs.Bytes.{hash}
 use Rattle.iff.specs.Lists.{Group, front, groups, members, any, has, total}
-use Rattle.iff.specs.Refusals.{verdict_at, scan, after}
+use Rattle.iff.specs.Refusals.{verdict_at, scan, after, at_place}
 use Rattle.iff.specs.Lines.{Line, letter, is_hash, size}
 use Rattle.iff.specs.Tables.{Row, tag, is_hash_row, keys_of}
 use Rattle.iff.specs.declared.File.TheVariants.{Timetbls}
 use Rattle.iff.specs.declared.Form.{Form}
-use Rattle.iff.specs.declared.Next.TheVariants.{Goes, NotHere}
 use Rattle.iff.specs.declared.Stand.TheVariants.{Start, Hash}
-use Rattle.iff.specs.declared.Place.TheVariants.{At}
-use Rattle.iff.specs.declared.Verdict.TheVariants.{Fine}
 use Rattle.iff_rules.specs.Order.{known_in_block, goes, is_goes, finished}
 use Rattle.iff_rules.specs.Rows.{row_of, block_row, block_rows_from, block_rows, blocks_rows, blocks_of, stops_in, lines_in, Context}
 use Rattle.iff_rules.specs.Unique.{fresh_key}
@@ -102,12 +100,12 @@ starts_hash : (x : ℕ) → is_goes (goes Start x) ≡ true → x ≡ hash
 unfolding goes
 starts_hash x e = go (eqb x hash) refl e
   where
-    go : (b : Bool) → eqb x hash ≡ b → is_goes (cond b (Goes Hash) NotHere) ≡ true → x ≡ hash
+    go : (b : Bool) → eqb x hash ≡ b → is_goes (cond b (Some Hash) None) ≡ true → x ≡ hash
     go true q e = eqb-true x hash q
     go false q e = absurd (false≢true e)
 
-module _ (c : Context) (seen : List ℕ) (o : ℕ) (g : Group Line) (bytes : Each InBytes (members g)) (e : block_verdict c seen o g ≡ Fine) where
-  lines_fine : scan (λ st j l. verdict_at (At Timetbls o j) (block_test c seen st l)) block_next block_start 1 (members g) ≡ Fine
+module _ (c : Context) (seen : List ℕ) (o : ℕ) (g : Group Line) (bytes : Each InBytes (members g)) (e : block_verdict c seen o g ≡ Ok tt) where
+  lines_fine : scan (λ st j l. verdict_at (at_place Timetbls o j) (block_test c seen st l)) block_next block_start 1 (members g) ≡ Ok tt
   unfolding block_verdict
   lines_fine = (cons_fine _ _ e).0
 
@@ -122,8 +120,8 @@ module _ (c : Context) (seen : List ℕ) (o : ℕ) (g : Group Line) (bytes : Eac
   top_seven : Seven (asked_in_block c seen block_start g.top)
   unfolding scan
   top_seven =
-      block_seven c seen block_start (At Timetbls o 1) g.top bytes.0
-      (or_fine (verdict_at (At Timetbls o 1) (block_test c seen block_start g.top)) _ lines_fine).0
+      block_seven c seen block_start (at_place Timetbls o 1) g.top bytes.0
+      (or_fine (verdict_at (at_place Timetbls o 1) (block_test c seen block_start g.top)) _ lines_fine).0
 
   top_hash : letter g.top ≡ hash
   top_hash = starts_hash (letter g.top) top_seven.is_here
@@ -131,13 +129,13 @@ module _ (c : Context) (seen : List ℕ) (o : ℕ) (g : Group Line) (bytes : Eac
   block_passes : passes (sound_block_row c) next_row rows_start (block_rows c.form g) ≡ true
   unfolding block_rows_from
   block_passes =
-      scan_passes (λ st j l. verdict_at (At Timetbls o j) (block_test c seen st l)) block_next InBytes (sound_block_row c) next_row
+      scan_passes (λ st j l. verdict_at (at_place Timetbls o j) (block_test c seen st l)) block_next InBytes (sound_block_row c) next_row
       (λ st j. record { block = st; line = j }) (λ j l. block_row c.form (stops_in g) (lines_in g) j l)
       (λ j ls. block_rows_from c.form (stops_in g) (lines_in g) j ls)
       (record {
         none = λ j. refl;
         one_more = λ j x xs. refl;
-        is_ok = λ st j l u q. block_row_lem c seen st (At Timetbls o j) l u q (stops_in g) (lines_in g) j;
+        is_ok = λ st j l u q. block_row_lem c seen st (at_place Timetbls o j) l u q (stops_in g) (lines_in g) j;
         moves = λ st j l. λ i. record { block = block_moves st (sym (tag_is c.form (stops_in g) (lines_in g) j l) i); line = suc j };
       })
       block_start 1 (members g) bytes lines_fine
@@ -164,7 +162,7 @@ module _ (c : Context) (seen : List ℕ) (o : ℕ) (g : Group Line) (bytes : Eac
   pub block_laid : Each (Laid c.form Timetbls) (members g)
   block_laid =
       scan_each _ _ InBytes (Laid c.form Timetbls)
-      (λ st j l u q. (block_seven c seen st (At Timetbls o j) l u q).is_laid_out) block_start 1 (members g) bytes lines_fine
+      (λ st j l u q. (block_seven c seen st (at_place Timetbls o j) l u q).is_laid_out) block_start 1 (members g) bytes lines_fine
 
   -- its service is that of no block before
   block_fresh : not (has (service_of c.form g) seen) ≡ true
@@ -174,12 +172,12 @@ module _ (c : Context) (seen : List ℕ) (o : ℕ) (g : Group Line) (bytes : Eac
       rw z at top_seven.is_fresh
 
 -- THE FILE
-module _ (c : Context) (ls : List Line) (bytes : Each InBytes ls) (e : timetbls_verdict c ls ≡ Fine) where
+module _ (c : Context) (ls : List Line) (bytes : Each InBytes ls) (e : timetbls_verdict c ls ≡ Ok tt) where
   pub no_stray : front is_hash ls ≡ []
   unfolding timetbls_verdict
   no_stray = stray_none Timetbls known_in_block (front is_hash ls) (cons_fine _ _ e).0
 
-  pub blocks_fine : scan (λ seen o g. block_verdict c seen o g) (λ seen g. seen ++ (service_of c.form g ∷ [])) [] 1 (blocks_of ls) ≡ Fine
+  pub blocks_fine : scan (λ seen o g. block_verdict c seen o g) (λ seen g. seen ++ (service_of c.form g ∷ [])) [] 1 (blocks_of ls) ≡ Ok tt
   unfolding timetbls_verdict
   blocks_fine = (cons_fine _ _ (cons_fine _ _ e).1).0
 

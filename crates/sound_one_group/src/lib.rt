@@ -32,8 +32,7 @@ pub fn is_group_sound(
         xfootnotes.now (λ c. sound_group c file (group_at w t.now from to)) result }
 {
     let mut stand = GroupStand::Opening;
-    let mut i = from;
-    while i < to {
+    for i in from..to {
         if !sound_group_rows::is_sound_at(
             file, stand, t, w, from, i, form, counts, companies, modes, stations, services, places,
             xfootnotes, marks,
@@ -41,7 +40,6 @@ pub fn is_group_sound(
             return false;
         }
         stand = group_order::group_moves(stand);
-        i += 1;
     }
     group_order::may_end(file, stand)
 }

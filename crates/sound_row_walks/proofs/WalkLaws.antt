@@ -1,4 +1,5 @@
 -- The walk over the rows of a block: what is left is the whole. Assumes nothing.
+use Rattle.std.specs.Prelude.{None, Option, Some}
 use Prim.Native.Nat.{ℕ, zero, suc, ◌+◌, ◌-◌, ◌≤◌, ◌<◌}
 use mathlib.Core.Path.{◌≡◌, refl, ap, sym, ◌∙◌}
 use mathlib.Core.List.{List, [], ◌∷◌}
@@ -25,11 +26,7 @@ use Rattle.walks.specs.Heads.{NextHead}
 use Rattle.walks.proofs.GroupLaws.{between_none, between_first, Passed, starts, goes_on, stops, ends}
 use Rattle.walks.proofs.PassLaws.{all_passed, row_fails, row_passes}
 use Rattle.sound_block_rows.specs.Told.{is_sound, RowTold}
-use Rattle.sound_block_rows.specs.declared.After.{After}
-use Rattle.sound_block_rows.specs.declared.After.TheVariants.{Stands}
-use Rattle.sound_block_rows.specs.declared.After.TheVariants as after
 use Rattle.sound_row_walks.specs.Walk.{BlockAt, rows_of, LedTo, BlockWalked}
-use Rattle.sound_row_walks.specs.declared.Walked.TheVariants.{Through, Unsound}
 
 -- the stops of one row and of those behind it
 stops_more : (r : Row) (rs : List Row) → stops_of (r ∷ rs) ≡ one (is_stop (tag r)) + stops_of rs
@@ -65,15 +62,15 @@ module _ (counts : BlockCounts) (co mo st fo t : List ℕ) (from to : ℕ) where
         says = λ c g. ap (λ n. passes (sound_block_row c) next_row (record { block = block_start; line = n }) (rows_of t from to)) z;
       }
 
-  module _ (i : ℕ) (block : InBlock) (p : Standing counts co mo st fo t from to i block) (low : from ≤ i) (h : i < to) (a : After)
+  module _ (i : ℕ) (block : InBlock) (p : Standing counts co mo st fo t from to i block) (low : from ≤ i) (h : i < to) (a : Option InBlock)
       (told : RowTold counts co mo st fo block (i - from + 1) (row_at (row_width Timetbls) t i) a) where
-    falls : a ≡ after.Unsound → (c : Context) → BlockKeysAmong c counts co mo st fo
+    falls : a ≡ None → (c : Context) → BlockKeysAmong c counts co mo st fo
         → false ≡ passes (sound_block_row c) next_row rows_start (rows_of t from to)
     falls e c g =
         row_fails (sound_block_row c) next_row (row_width Timetbls) t to i (before block from i) h (is_sound a) (told.says c g) (ap is_sound e)
         ∙ sym (p.says c g)
 
-    stands_next : (next : InBlock) → a ≡ Stands next → Standing counts co mo st fo t from to (i + 1) next
+    stands_next : (next : InBlock) → a ≡ Some next → Standing counts co mo st fo t from to (i + 1) next
     unfolding stand_after_rows block_moves
     stands_next next e =
         let r = row_at (row_width Timetbls) t i in
@@ -128,7 +125,7 @@ module _ (counts : BlockCounts) (co mo st fo t : List ℕ) (from used : ℕ) (at
 
   module _ (i : ℕ) (block : InBlock) (p : Walking counts co mo st fo t from used i block) where
     -- at the next `#`, or where there are no rows left
-    comes_to : NextHead (row_width Timetbls) t (suc from) used i → BlockWalked counts co mo st fo t from used (Through block i)
+    comes_to : NextHead (row_width Timetbls) t (suc from) used i → BlockWalked counts co mo st fo t from used (Some (block, i))
     unfolding stand_after_rows kept
     comes_to n =
         let s = p.stands i (omega arith) in
@@ -140,11 +137,12 @@ module _ (counts : BlockCounts) (co mo st fo t : List ℕ) (from used : ℕ) (at
           ended = λ b to e. led s none b to e;
         }
       where
-        led : Standing counts co mo st fo t from i i block → rows_of t i i ≡ [] → (b : InBlock) (to : ℕ) → Through block i ≡ Through b to
+        led : Standing counts co mo st fo t from i i block → rows_of t i i ≡ [] → (b : InBlock) (to : ℕ) → ◌≡◌ {A = Option (InBlock × ℕ)} (Some (block, i)) (Some (b, to))
             → (to ≡ i) × LedTo (rows_of t from i) b
         led s none b to e =
-            let q : block ≡ b = cc in
-            let z : i ≡ to = cc in (
+            let both : ◌≡◌ {A = InBlock × ℕ} (block, i) (b, to) = cc in
+            let q : block ≡ b = ap (λ x. x.0) both in
+            let z : i ≡ to = ap (λ x. x.1) both in (
               sym z,
               record {
                 stand = s.stand ∙ rw none (ap (λ k. k.stand) q);
@@ -153,11 +151,14 @@ module _ (counts : BlockCounts) (co mo st fo t : List ℕ) (from used : ℕ) (at
               },
             )
 
-    pub walk_ends : used ≤ i → BlockWalked counts co mo st fo t from used (Through block i)
+    pub walk_ends : used ≤ i → BlockWalked counts co mo st fo t from used (Some (block, i))
     walk_ends h = comes_to (ends (row_width Timetbls) t (suc from) used i (p.passed (omega (arith, at.some))) h)
 
+    pub walk_ends_at : used ≤ i → (n : ℕ) → i ≡ n → BlockWalked counts co mo st fo t from used (Some (block, n))
+    walk_ends_at h n e = rw (← e) (walk_ends h)
+
     module _ (h : i < used) (b : Bool) (e : b ≡ (ltb from i && is_hash_row (row_at (row_width Timetbls) t i))) where
-      pub walk_stops : b ≡ true → BlockWalked counts co mo st fo t from used (Through block i)
+      pub walk_stops : b ≡ true → BlockWalked counts co mo st fo t from used (Some (block, i))
       walk_stops f =
           let both : ltb from i && is_hash_row (row_at (row_width Timetbls) t i) ≡ true = sym e ∙ f in
           let more : from < i = ltb-true from i (and_left (ltb from i) (is_hash_row (row_at (row_width Timetbls) t i)) both) in
@@ -176,8 +177,8 @@ module _ (counts : BlockCounts) (co mo st fo t : List ℕ) (from used : ℕ) (at
                 let z : i + 1 ≡ suc from = omega (arith, ltb-false from i q, p.low) in
                 rw z (starts (row_width Timetbls) t (suc from) used (omega arith))
 
-        module _ (a : After) (told : RowTold counts co mo st fo block (i - from + 1) (row_at (row_width Timetbls) t i) a) where
-          pub walk_falls : a ≡ after.Unsound → BlockWalked counts co mo st fo t from used Unsound
+        module _ (a : Option InBlock) (told : RowTold counts co mo st fo block (i - from + 1) (row_at (row_width Timetbls) t i) a) where
+          pub walk_falls : a ≡ None → BlockWalked counts co mo st fo t from used None
           walk_falls q =
               let y = ending t (suc from) used (used - (i + 1)) (i + 1) refl passes_row in
               record {
@@ -187,7 +188,7 @@ module _ (counts : BlockCounts) (co mo st fo t : List ℕ) (from used : ℕ) (at
                 ended = λ k to r. absurd (let z : ◌≡◌ {A = ℕ} 0 1 = cc in omega arith);
               }
 
-          pub walk_goes_on : (next : InBlock) → a ≡ Stands next → Walking counts co mo st fo t from used (i + 1) next
+          pub walk_goes_on : (next : InBlock) → a ≡ Some next → Walking counts co mo st fo t from used (i + 1) next
           walk_goes_on next q =
               record {
                 low = omega (arith, p.low);

@@ -1,5 +1,5 @@
 -- A walk over the rows of a block.
-use Rattle.std.specs.Prelude.{ℕ, suc, ◌*◌, ◌≤◌, ◌<◌, ◌≡◌, List, Bool, true, false, length}
+use Rattle.std.specs.Prelude.{ℕ, suc, ◌*◌, ◌≤◌, ◌<◌, ◌≡◌, List, Bool, true, false, length, None, Option, Some}
 use Rattle.iff.specs.Tables.{Row, row_width, rows_in}
 use Rattle.iff.specs.declared.File.TheVariants.{Timetbls}
 use Rattle.iff.specs.declared.InBlock.{InBlock}
@@ -12,8 +12,6 @@ use Rattle.keys.specs.Blocks.{rows_between}
 use Rattle.references.specs.declared.BlockCounts.{BlockCounts}
 use Rattle.references.specs.Agree.{BlockKeysAmong}
 use Rattle.walks.specs.Heads.{NextHead}
-use Rattle.sound_row_walks.specs.declared.Walked.{Walked}
-use Rattle.sound_row_walks.specs.declared.Walked.TheVariants.{Through, Unsound}
 
 -- how many rows of a table of TIMETBLS are in use
 abbrev pub used_in : List ℕ → ℕ
@@ -28,9 +26,9 @@ pub record BlockAt (t : List ℕ) (from used : ℕ) : Type 0 where
 abbrev pub rows_of : List ℕ → ℕ → ℕ → List Row
 rows_of t from to = rows_between (row_width Timetbls) t from to
 
-abbrev pub is_through : Walked → Bool
-is_through (Through block to) = true
-is_through Unsound = false
+abbrev pub is_through : Option (InBlock × ℕ) → Bool
+is_through (Some (block, to)) = true
+is_through None = false
 
 -- where rows lead that are all sound
 pub record LedTo (rows : List Row) (end : InBlock) : Type 0 where
@@ -39,10 +37,10 @@ pub record LedTo (rows : List Row) (end : InBlock) : Type 0 where
   pub few : end.stops ≤ most_stops
 
 -- the block's rows end before row `end`; whether they are sound, whatever context agrees with the lent tables' first rows, and where they lead
-pub record BlockWalked (counts : BlockCounts) (co mo st fo t : List ℕ) (from used : ℕ) (r : Walked) : Type 0 where
+pub record BlockWalked (counts : BlockCounts) (co mo st fo t : List ℕ) (from used : ℕ) (r : Option (InBlock × ℕ)) : Type 0 where
   pub end : ℕ
   pub next : NextHead (row_width Timetbls) t (suc from) used end
   pub says :
       (c : Context) → BlockKeysAmong c counts co mo st fo
       → is_through r ≡ passes (sound_block_row c) next_row rows_start (rows_of t from end)
-  pub ended : (block : InBlock) (to : ℕ) → r ≡ Through block to → (to ≡ end) × LedTo (rows_of t from end) block
+  pub ended : (block : InBlock) (to : ℕ) → r ≡ Some (block, to) → (to ≡ end) × LedTo (rows_of t from end) block

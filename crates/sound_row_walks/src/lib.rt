@@ -8,13 +8,6 @@ ghost use Rattle.iff_rules.specs.Meaning.{most_stops};
 ghost use Rattle.sound_block_rows.specs.Told.{RowTold};
 ghost use Rattle.sound_row_walks.specs.Walk.{used_in, BlockAt, BlockWalked};
 
-// Where the rows of a block lead, each of them sound, and the row behind them; or that one is not.
-#[derive(Clone, Copy)]
-pub enum Walked {
-    Through(iff::InBlock, usize),
-    Unsound,
-}
-
 // Row `i` begins another block than the one that begins in row `from`.
 fn is_next_head(t: &[u64], from: usize, i: usize) -> bool
     requires { i * row_width Timetbls + row_width Timetbls ≤ length t.now }
@@ -38,7 +31,7 @@ fn after_at(
     stations: &[u64],
     footnotes: &[u64],
     places: &[u32],
-) -> sound_block_rows::After
+) -> Option<iff::InBlock>
     requires { (i * row_width Timetbls + row_width Timetbls ≤ length t.now) × (block.stops ≤ most_stops) }
     ensures { RowTold counts companies.now modes.now stations.now footnotes.now
         block line (row_at (row_width Timetbls) t.now i) result }
@@ -58,7 +51,7 @@ fn after_at(
     )
 }
 
-// The rows of a block one after the other, up to the next `#` or the end of the rows in use.
+// The rows of a block one after the other, up to the next `#` or the end of the rows in use: where they lead and the row behind them, if each is sound.
 pub fn walk_rows(
     t: &[u64],
     from: usize,
@@ -68,7 +61,7 @@ pub fn walk_rows(
     stations: &[u64],
     footnotes: &[u64],
     places: &[u32],
-) -> Walked
+) -> Option<(iff::InBlock, usize)>
     requires { BlockAt t.now from (used_in t.now) }
     ensures { BlockWalked counts companies.now modes.now stations.now footnotes.now
         t.now from (used_in t.now) result }
@@ -78,16 +71,15 @@ pub fn walk_rows(
         stand: iff::Stand::Start,
         stops: 0,
     };
-    let mut i = from;
-    while i < room {
+    for i in from..room {
         if tables::word_at(t, tables::BLOCK_WIDTH, i, iff::words::TAG) == 0 {
-            return Walked::Through(block, i);
+            return Some((block, i));
         }
         if is_next_head(t, from, i) {
-            return Walked::Through(block, i);
+            return Some((block, i));
         }
         let line = i - from + 1;
-        let sound_block_rows::After::Stands(next) = after_at(
+        block = after_at(
             t,
             i,
             block,
@@ -98,11 +90,7 @@ pub fn walk_rows(
             stations,
             footnotes,
             places,
-        ) else {
-            return Walked::Unsound;
-        };
-        block = next;
-        i += 1;
+        )?;
     }
-    Walked::Through(block, i)
+    Some((block, room))
 }

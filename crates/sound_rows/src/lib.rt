@@ -87,12 +87,5 @@ pub fn are_rows_sound(
 {
     let w = tables::row_width(File::Rows(file));
     let counts = references::count_for_stations(countries, zones);
-    let mut i = 1;
-    while i < used {
-        if !is_sound_at(file, t, w, i, form, countries, zones, counts, places) {
-            return false;
-        }
-        i += 1;
-    }
-    true
+    (1..used).all(|i| is_sound_at(file, t, w, i, form, countries, zones, counts, places))
 }

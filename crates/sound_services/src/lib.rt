@@ -12,14 +12,14 @@ ghost use Rattle.sound_services.specs.Services.{most_indexed, ServiceAt, Service
 pub const INDEXED: u64 = 65536;
 
 // The service of the block in row `i`, after `done` others: it is tested and put into the index, or where that has enough, only the run of the keys
-// goes on.
+// goes on. None, where the service came before.
 pub fn index_service(
     t: &[u64],
     i: usize,
     done: u64,
     run: fresh_keys::KeyRun,
     places: &mut [u32],
-) -> index::Next
+) -> Option<fresh_keys::KeyRun>
     requires { ServiceAt t.now done run i places.old }
     ensures { ServicePut t.now done run i places.old places.new result }
 {
@@ -27,7 +27,7 @@ pub fn index_service(
         return index::index_row(iff::File::Timetbls, t, i, run, places);
     }
     let service = tables::word_at(t, tables::BLOCK_WIDTH, i, iff::words::NAMED);
-    index::Next::Goes(fresh_keys::next_run(run, service))
+    Some(fresh_keys::next_run(run, service))
 }
 
 // No service comes twice. While all were put into the index, each was new, and the slots stay as they are; of more of them, walks over the whole

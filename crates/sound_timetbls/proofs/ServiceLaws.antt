@@ -1,5 +1,6 @@
 -- The services of blocks from block to block: a block's first row names one, and no other row of it does. The first ones are tested and put into the
 -- index, and of more of them the whole table is asked at the end; whether they rise is told by their run in both cases. Assumes nothing.
+use Rattle.std.specs.Prelude.{None, Option, Some}
 use Prim.Native.Nat.{ℕ, suc, ◌+◌, ◌-◌, ◌*◌, ◌≤◌, ◌<◌}
 use mathlib.Core.Path.{◌≡◌, refl, ap, sym, ◌∙◌}
 use mathlib.Core.List.{List, [], ◌∷◌}
@@ -24,19 +25,14 @@ use Rattle.key_classes.specs.Classes.{services_from}
 use Rattle.key_classes.proofs.RowLaws.{next_service, same_services, none_left}
 use Rattle.slots.specs.Slots.{key_at, Index}
 use Rattle.index.specs.Keying.{Indexed}
-use Rattle.index.specs.declared.Next.{Next}
-use Rattle.index.specs.declared.Next.TheVariants.{Came, Goes}
 use Rattle.index.proofs.KeyLaws.{none_indexed, at_row, one_indexed, again_told, all_told, none_between}
 use Rattle.references.specs.declared.BlockCounts.{BlockCounts}
 use Rattle.walks.specs.Heads.{NextHead}
 use Rattle.sound_services.specs.Services.{most_indexed, ServiceAt, ServicePut, AllGone}
 use Rattle.sound_blocks.specs.Blocks.{BlockTold}
-use Rattle.sound_timetbls.specs.Told.{are_sound, BlocksTold, EndTold}
-use Rattle.sound_blocks.specs.declared.Tested.{Tested}
-use Rattle.sound_blocks.specs.declared.Tested.TheVariants as tested
-use Rattle.sound_timetbls.specs.declared.BlocksAre.{BlocksAre}
-use Rattle.sound_timetbls.specs.declared.BlocksAre.TheVariants.{Sound, Unsound}
+use Rattle.sound_timetbls.specs.Told.{are_sound, BlocksTold, EndTold, blocks_are}
 use Rattle.sound_blocks.proofs.BlockLaws.{Left, AllSays, stray, starts, ends, unsound_block, goes_on}
+use Rattle.sound_timetbls.specs.declared.SoundBlocks.{SoundBlocks}
 
 -- no row before the next `#` is one
 none_in_front : (rs : List Row) → any is_hash_row (front is_hash_row rs) ≡ false
@@ -59,22 +55,36 @@ no_head_before w t from to r n j low high = go (is_hash_row (row_at w t j)) refl
     go true e = absurd (true≢false (sym (any_row is_hash_row w t from (r - from) j low (omega arith) e) ∙ none))
     go false e = e
 
+-- two that are told alike
+module _ {n m : ℕ} {rise up indexed told : Bool} (q : blocks_are n rise indexed ≡ blocks_are m up told) where
+  same : ◌≡◌ {A = SoundBlocks} (record { rows = n; rise = rise; indexed = indexed }) (record { rows = m; rise = up; indexed = told })
+  same = cc
+
+  same_rows : n ≡ m
+  same_rows = ap (λ z. z.rows) same
+
+  same_rise : rise ≡ up
+  same_rise = ap (λ z. z.rise) same
+
+  same_indexed : indexed ≡ told
+  same_indexed = ap (λ z. z.indexed) same
+
 -- THE END: whether no service comes twice decides; the slots were `ps` before, and stayed so where all services are in them
 module _ (t : List ℕ) (used : ℕ) (run : KeyRun) (ps qs : List ℕ) (b : Bool) (e : b ≡ distinct (keys_among Timetbls used t)) where
   pub once : (done : ℕ) → (done ≤ most_indexed → Index Timetbls t used (length ps) ps) → (done ≤ most_indexed → qs ≡ ps) → b ≡ true
-      → EndTold t used run qs (Sound used run.rises (leb done most_indexed))
+      → EndTold t used run qs (blocks_are used run.rises (leb done most_indexed))
   once done i same k =
       record {
         says = sym k ∙ e;
-        rows = λ n x w q. let z : used ≡ n = cc in sym z;
-        rise = λ n x w q. let z : run.rises ≡ x = cc in sym z;
+        rows = λ n x w q. sym (same_rows q);
+        rise = λ n x w q. sym (same_rise q);
         index = λ n x w q y.
-            let z : leb done most_indexed ≡ true = cc in
+            let z : leb done most_indexed ≡ true = same_indexed q ∙ y in
             let few : done ≤ most_indexed = leb-true done most_indexed z in
             rw (same few) (i few);
       }
 
-  pub twice : b ≡ false → EndTold t used run qs Unsound
+  pub twice : b ≡ false → EndTold t used run qs None
   twice y =
       record {
         says = sym y ∙ e;
@@ -95,7 +105,7 @@ pub record Going (counts : BlockCounts) (co mo st fo t : List ℕ) (used : ℕ) 
 module _ (counts : BlockCounts) (co mo st fo t : List ℕ) (used : ℕ) where
   -- blocks that are not all sound, and services of which one comes twice
   abbrev Told : List ℕ → Type 0
-  Told qs = BlocksTold counts co mo st fo t used qs Unsound
+  Told qs = BlocksTold counts co mo st fo t used qs None
 
   not_sound : (qs : List ℕ) → AllSays counts co mo st fo t used false → Told qs
   not_sound qs e =
@@ -152,7 +162,7 @@ module _ (counts : BlockCounts) (co mo st fo t : List ℕ) (used : ℕ) where
         (λ f. rw p.wide (p.sure f).index),
       )
 
-      pub going_last : (ms : List ℕ) (r : BlocksAre) → EndTold t i run ms r → BlocksTold counts co mo st fo t used ms r
+      pub going_last : (ms : List ℕ) (r : Option SoundBlocks) → EndTold t i run ms r → BlocksTold counts co mo st fo t used ms r
       going_last ms r x =
           let d : are_sound r ≡ distinct (keys_among Timetbls used t) = x.says ∙ ap (λ (n : ℕ). distinct (keys_among Timetbls n t)) is_used in
           record {
@@ -174,12 +184,12 @@ module _ (counts : BlockCounts) (co mo st fo t : List ℕ) (used : ℕ) where
           }
 
       -- the block that begins in row i, and its service
-      module _ (head : is_hash_row (row_at (row_width Timetbls) t i) ≡ true) (b : Tested) (told : BlockTold counts co mo st fo t i used b) where
-        pub block_unsound : b ≡ tested.Unsound → Told qs
+      module _ (head : is_hash_row (row_at (row_width Timetbls) t i) ≡ true) (b : Option ℕ) (told : BlockTold counts co mo st fo t i used b) where
+        pub block_unsound : b ≡ None → Told qs
         block_unsound e = not_sound qs (unsound_block counts co mo st fo t used i p.left l head b told e)
 
-        module _ (to : ℕ) (e : b ≡ tested.Sound to) (ms : List ℕ) (r : Next) (put : ServicePut t done run i qs ms r) where
-          pub service_came : r ≡ Came → Told ms × (length ms ≡ length ps)
+        module _ (to : ℕ) (e : b ≡ Some to) (ms : List ℕ) (r : Option KeyRun) (put : ServicePut t done run i qs ms r) where
+          pub service_came : r ≡ None → Told ms × (length ms ≡ length ps)
           service_came q = (go (ltb done most_indexed) refl, put.wide ∙ p.wide)
             where
               go : (x : Bool) → ltb done most_indexed ≡ x → Told ms
@@ -187,10 +197,10 @@ module _ (counts : BlockCounts) (co mo st fo t : List ℕ) (used : ℕ) where
                   let k : done < most_indexed = ltb-true done most_indexed f in
                   not_distinct ms (sym (again_told Timetbls used t ps run i qs (p.sure (omega arith)) l ms r (put.put k) q).0.distinct)
               go false f =
-                  let k : Came ≡ Goes (step_run run (key_at Timetbls t i)) = sym q ∙ put.gone (ltb-false done most_indexed f) in
+                  let k : None ≡ Some (step_run run (key_at Timetbls t i)) = sym q ∙ put.gone (ltb-false done most_indexed f) in
                   absurd (let z : ◌≡◌ {A = ℕ} 0 1 = cc in omega arith)
 
-          module _ (next : KeyRun) (q : r ≡ Goes next) where
+          module _ (next : KeyRun) (q : r ≡ Some next) where
             indexed_on : done < most_indexed → Indexed Timetbls used t ps next to ms
             indexed_on f =
                 none_between Timetbls used t ps next ms (i + 1) to (omega (arith, told.ended to e, told.next.low))
@@ -215,7 +225,7 @@ module _ (counts : BlockCounts) (co mo st fo t : List ℕ) (used : ℕ) where
                 go : (x : Bool) → ltb done most_indexed ≡ x → run_of (keys_among Timetbls used t) ≡ after step_run next (services_from t used to)
                 go true f = (indexed_on (ltb-true done most_indexed f)).told.rises
                 go false f =
-                    let k : Goes next ≡ Goes (step_run run (key_at Timetbls t i)) = sym q ∙ put.gone (ltb-false done most_indexed f) in
+                    let k : Some next ≡ Some (step_run run (key_at Timetbls t i)) = sym q ∙ put.gone (ltb-false done most_indexed f) in
                     let z : next ≡ step_run run (key_at Timetbls t i) = cc in
                     run_on z
 

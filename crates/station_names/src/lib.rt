@@ -7,7 +7,6 @@ ghost use Rattle.parts.specs.Bounds.{Inside};
 ghost use Rattle.station_names.specs.Names.{name_part};
 
 use iff::{Reason, Test};
-use iff_desk::Offset;
 use parts::{Part, Want, no_part, seek_after};
 
 // Where columns 44-73 stand of the first row of 73 bytes, after the first line, with that short name; else 17.
@@ -15,16 +14,16 @@ pub fn name_part(stations: &[u8], short: u64) -> Part
     ensures { (result ≡ name_part stations.now short) × Inside stations.now result }
 {
     match seek_after(stations, 0, Want::Station(short)) {
-        Offset::From(i) => {
+        Some(i) => {
             let from = i + 43;
             let to = i + 73;
             Part {
-                test: Test::Passes,
+                test: Ok(()),
                 from: from,
                 to: to,
             }
         }
-        Offset::NotFound => no_part(Reason::NoStation),
+        None => no_part(Reason::NoStation),
     }
 }
 

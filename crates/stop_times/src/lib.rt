@@ -15,8 +15,8 @@ ghost use Rattle.store.specs.Found.{Stored, rows_of, Inside, row_or, Stands};
 ghost use Rattle.day_times.specs.Told.{FewHours};
 ghost use Rattle.stop_times.specs.Times.{times_there};
 
-use iff::{DayOf, Reason, RowOf, Test, words};
-use iff_desk::{StopTime, StopTimes, ToldTime};
+use iff::{Reason, words};
+use iff_desk::StopTimes;
 use store::Part;
 
 // A date as a day's number, 0 for what is no date.
@@ -24,8 +24,8 @@ fn day_number(date: u64) -> u64
     ensures { (result ≡ day_number (day_of date)) × (result < 4000000) }
 {
     match calendar::day_of(date) {
-        DayOf::Day(day) => day,
-        DayOf::NotADay => 0,
+        Some(day) => day,
+        None => 0,
     }
 }
 
@@ -45,7 +45,7 @@ pub fn is_stop_number(timetbls: &[u64], part: Part, number: u64) -> bool
 // The times of a stop's row on a date, each by the period of its own day: 15 where none holds it.
 fn times_there(
     timetbls: &[u64],
-    row: RowOf,
+    row: Option<usize>,
     zones: &[u64],
     zones_used: usize,
     zone_places: &[u32],
@@ -53,7 +53,7 @@ fn times_there(
     stations_used: usize,
     station_places: &[u32],
     date: u64,
-) -> StopTime
+) -> Result<iff_desk::StopTimes, iff::Reason>
     requires { Stands (row_width Timetbls) timetbls.now row
         × Stored (Groups Timezone) zones_used zones.now
         × Stored (Rows Stations) stations_used stations.now
@@ -65,7 +65,7 @@ fn times_there(
 {
     let station = store::word_of(timetbls, tables::BLOCK_WIDTH, row, words::NAMED);
     let number = day_number(date);
-    let ToldTime::Told(arrival) = day_times::arrival_on(
+    let Some(arrival) = day_times::arrival_on(
         timetbls,
         row,
         zones,
@@ -77,9 +77,9 @@ fn times_there(
         station,
         number,
     ) else {
-        return StopTime::StopTimeRefused(Reason::NoPeriod);
+        return Err(Reason::NoPeriod);
     };
-    let ToldTime::Told(departure) = day_times::departure_on(
+    let Some(departure) = day_times::departure_on(
         timetbls,
         row,
         zones,
@@ -91,9 +91,9 @@ fn times_there(
         station,
         number,
     ) else {
-        return StopTime::StopTimeRefused(Reason::NoPeriod);
+        return Err(Reason::NoPeriod);
     };
-    StopTime::Times(StopTimes {
+    Ok(StopTimes {
         station: station,
         arrival: arrival,
         departure: departure,
@@ -116,7 +116,7 @@ pub fn stop_time_in(
     service: u64,
     number: u64,
     date: u64,
-) -> StopTime
+) -> Result<iff_desk::StopTimes, iff::Reason>
     requires { Stored Delivery delivery_used delivery.now
         × Stored Timetbls timetbls_used timetbls.now
         × Stored (Groups Timezone) zones_used zones.now
@@ -137,21 +137,17 @@ pub fn stop_time_in(
         service,
     );
     let right = is_stop_number(timetbls, part, number);
-    match running::asked(delivery, delivery_used, part, right, date) {
-        Test::Fails(reason) => StopTime::StopTimeRefused(reason),
-        Test::Passes => {
-            let row = service_rows::stop_row(timetbls, part, number);
-            times_there(
-                timetbls,
-                row,
-                zones,
-                zones_used,
-                zone_places,
-                stations,
-                stations_used,
-                station_places,
-                date,
-            )
-        }
-    }
+    running::asked(delivery, delivery_used, part, right, date)?;
+    let row = service_rows::stop_row(timetbls, part, number);
+    times_there(
+        timetbls,
+        row,
+        zones,
+        zones_used,
+        zone_places,
+        stations,
+        stations_used,
+        station_places,
+        date,
+    )
 }

@@ -1,4 +1,5 @@
 -- A service's block, by the number of lines that its `#` row tells. Assumes nothing.
+use Rattle.std.specs.Prelude.{Option, Some}
 use Prim.Native.Nat.{ℕ, suc, ◌+◌, ◌-◌, ◌≤◌}
 use mathlib.Core.Path.{◌≡◌, refl, ap, sym, ◌∙◌}
 use mathlib.Core.List.{List, [], ◌∷◌}
@@ -10,8 +11,6 @@ use Rattle.iff.specs.Lists.{front}
 use Rattle.iff.specs.Tables.{Row, is_hash_row, row_width, row_at, rows_in}
 use Rattle.iff.specs.Words.{line_count}
 use Rattle.iff.specs.declared.File.TheVariants.{Timetbls}
-use Rattle.iff.specs.declared.RowOf.{RowOf}
-use Rattle.iff.specs.declared.RowOf.TheVariants.{Row as RowIs}
 use Rattle.iff_desk.specs.Store.{group_of}
 use Rattle.keys.specs.Lookup.{FoundRow}
 use Rattle.keys.proofs.Blocks.{between_in_table}
@@ -43,7 +42,7 @@ front_few (r ∷ rs) = go (is_hash_row r) (front_few rs)
     go false h = omega (arith, h)
 
 -- the block that a service's row opens
-module _ (used : ℕ) (t : List ℕ) (s : Stored Timetbls used t) (key : ℕ) (o : RowOf) (h : FoundRow Timetbls used t key o) (i : ℕ) (e : o ≡ RowIs i) where
+module _ (used : ℕ) (t : List ℕ) (s : Stored Timetbls used t) (key : ℕ) (o : Option ℕ) (h : FoundRow Timetbls used t key o) (i : ℕ) (e : o ≡ Some i) where
   abbrev later : List Row
   later = drop (suc i) (rows_in Timetbls t)
 

@@ -1,4 +1,5 @@
 -- The first row that passes, as the first of those that are kept, and as the head of its group. Assumes nothing.
+use Rattle.std.specs.Prelude.{None, Option, Some}
 use Prim.Native.Nat.{ℕ, suc, ◌+◌, ◌-◌, ◌*◌, ◌/◌, ◌≤◌, ◌<◌}
 use mathlib.Core.Path.{◌≡◌, refl, ap, sym, ◌∙◌}
 use mathlib.Core.List.{List, [], ◌∷◌}
@@ -17,8 +18,6 @@ use Rattle.iff.specs.Words.{named}
 use Rattle.iff.specs.declared.RowFile.TheVariants.{Stations}
 use Rattle.iff.specs.declared.File.{File}
 use Rattle.iff.specs.declared.File.TheVariants.{Rows}
-use Rattle.iff.specs.declared.RowOf.{RowOf}
-use Rattle.iff.specs.declared.RowOf.TheVariants.{Row as RowIs, NoRow}
 use Rattle.iff_rules.specs.Rows.{first_of}
 use Rattle.iff_desk.specs.Store.{no_row, rows_of_groups, group_of, station_row}
 use Rattle.tables.proofs.Rows.{row_inside, rows_most, row_is}
@@ -32,9 +31,9 @@ use Rattle.store.specs.Found.{Stored, HasGroups, row_or, GroupAt, RowFor}
 use Rattle.store.proofs.OnceLaws.{found_first, no_more}
 
 -- among rows: row i of them, counted from k, or none
-abbrev row_from : ℕ → List Row → RowOf → Row
-row_from k rs (RowIs i) = get_or rs (i - k) []
-row_from k rs NoRow = no_row
+abbrev row_from : ℕ → List Row → Option ℕ → Row
+row_from k rs (Some i) = get_or rs (i - k) []
+row_from k rs None = no_row
 
 module _ (p : Row → Bool) where
   kept_first : (k : ℕ) (rs : List Row) → first_of (kept p rs) ≡ row_from k rs (first_row p k rs)
@@ -45,25 +44,25 @@ module _ (p : Row → Bool) where
       z : k - k ≡ 0
       z = omega arith
 
-      later : (i : ℕ) → first_row p (suc k) rs ≡ RowIs i → get_or rs (i - suc k) [] ≡ get_or (r ∷ rs) (i - k) []
+      later : (i : ℕ) → first_row p (suc k) rs ≡ Some i → get_or rs (i - suc k) [] ≡ get_or (r ∷ rs) (i - k) []
       later i e =
           let h = (first_passing p (suc k) rs i e).0 in
           let y : i - k ≡ suc (i - suc k) = omega arith in
           rw y
 
-      moved : (o : RowOf) → first_row p (suc k) rs ≡ o → row_from (suc k) rs o ≡ row_from k (r ∷ rs) o
-      moved (RowIs i) e = later i e
-      moved NoRow e = refl
+      moved : (o : Option ℕ) → first_row p (suc k) rs ≡ o → row_from (suc k) rs o ≡ row_from k (r ∷ rs) o
+      moved (Some i) e = later i e
+      moved None e = refl
 
       go : (b : Bool) → first_of (kept p rs) ≡ row_from (suc k) rs (first_row p (suc k) rs)
-          → first_of (cond b (r ∷ kept p rs) (kept p rs)) ≡ row_from k (r ∷ rs) (cond b (RowIs k) (first_row p (suc k) rs))
+          → first_of (cond b (r ∷ kept p rs) (kept p rs)) ≡ row_from k (r ∷ rs) (cond b (Some k) (first_row p (suc k) rs))
       go true e = rw z
       go false e = e ∙ moved (first_row p (suc k) rs) refl
 
 -- the group that the first row with a key opens
-abbrev pub group_from : ℕ → List Row → RowOf → List Row
-group_from k rs (RowIs i) = get_or rs (i - k) [] ∷ front is_hash_row (drop (suc (i - k)) rs)
-group_from k rs NoRow = []
+abbrev pub group_from : ℕ → List Row → Option ℕ → List Row
+group_from k rs (Some i) = get_or rs (i - k) [] ∷ front is_hash_row (drop (suc (i - k)) rs)
+group_from k rs None = []
 
 module _ (key : ℕ) where
   abbrev pub opens : Row → Bool
@@ -83,15 +82,15 @@ module _ (key : ℕ) where
       z : k - k ≡ 0
       z = omega arith
 
-      moved : (o : RowOf) → first_row opens (suc k) rs ≡ o → group_from (suc k) rs o ≡ group_from k (r ∷ rs) o
-      moved (RowIs i) e =
+      moved : (o : Option ℕ) → first_row opens (suc k) rs ≡ o → group_from (suc k) rs o ≡ group_from k (r ∷ rs) o
+      moved (Some i) e =
           let h = (first_passing opens (suc k) rs i e).0 in
           let y : i - k ≡ suc (i - suc k) = omega arith in
           rw y
-      moved NoRow e = refl
+      moved None e = refl
 
       go : (a b : Bool) → eqb (named r) key ≡ b → rows_of_groups (kept own (groups is_hash_row rs)) ≡ group_from (suc k) rs (first_row opens (suc k) rs)
-          → rows_of_groups (kept own (groups_with a r rs)) ≡ group_from k (r ∷ rs) (cond (a && b) (RowIs k) (first_row opens (suc k) rs))
+          → rows_of_groups (kept own (groups_with a r rs)) ≡ group_from k (r ∷ rs) (cond (a && b) (Some k) (first_row opens (suc k) rs))
       go true true q e = rw (q, z)
       go true false q e = rw q (e ∙ moved (first_row opens (suc k) rs) refl)
       go false b q e = e ∙ moved (first_row opens (suc k) rs) refl
@@ -113,19 +112,19 @@ module _ (f : File) (used : ℕ) (t : List ℕ) (s : Stored f used t) where
 
   module _ (key : ℕ) where
     -- the row of a key is in use
-    pub found_inside : (o : RowOf) → FoundRow f used t key o → (i : ℕ) → o ≡ RowIs i → i < used
+    pub found_inside : (o : Option ℕ) → FoundRow f used t key o → (i : ℕ) → o ≡ Some i → i < used
     found_inside o h i e = let k = h.found i e in omega (arith, k.inside, no_more used (length t / row_width f))
 
     pub row_of : (i : ℕ) → i < used → get_or (rows_in f t) (i - 0) [] ≡ row_at (row_width f) t i
     row_of i h = rw sub-zero (row_is (row_width f) (length t / row_width f) t i (omega (arith, s.counted)))
 
     module _ (g : HasGroups f) where
-      pub own_group : (o : RowOf) → FoundRow f used t key o → group_of key (rows_in f t) ≡ group_from 0 (rows_in f t) o
+      pub own_group : (o : Option ℕ) → FoundRow f used t key o → group_of key (rows_in f t) ≡ group_from 0 (rows_in f t) o
       own_group o h =
           let e : o ≡ first_row (opens key) 0 (rows_in f t) = rw (g.tag, g.word) at (found_first f used t key s o h) in
           rw e (group_first key 0 (rows_in f t))
 
-      pub group_found : (o : RowOf) → FoundRow f used t key o → (i : ℕ) → o ≡ RowIs i → (w r : ℕ) → w ≡ row_width f → NextHead w t (i + 1) used r
+      pub group_found : (o : Option ℕ) → FoundRow f used t key o → (i : ℕ) → o ≡ Some i → (w r : ℕ) → w ≡ row_width f → NextHead w t (i + 1) used r
           → GroupAt f used t key (record { from = i; to = r })
       group_found o h i e w r v m =
           let l = found_inside o h i e in
@@ -142,7 +141,7 @@ module _ (f : File) (used : ℕ) (t : List ℕ) (s : Stored f used t) where
             in_use = n.high;
           }
 
-      pub group_none : (o : RowOf) → FoundRow f used t key o → o ≡ NoRow → GroupAt f used t key (record { from = 0; to = 0 })
+      pub group_none : (o : Option ℕ) → FoundRow f used t key o → o ≡ None → GroupAt f used t key (record { from = 0; to = 0 })
       group_none o h e =
           record {
             is = own_group o h ∙ ap (group_from 0 (rows_in f t)) e ∙ sym (between_none (row_width f) t 0 0 (omega arith));
@@ -155,11 +154,11 @@ module _ (used : ℕ) (t : List ℕ) (s : Stored (Rows Stations) used t) (key : 
   abbrev is_station : Row → Bool
   is_station r = keyed (key_tag (Rows Stations)) (key_word (Rows Stations)) key r
 
-  station_of : (o : RowOf) → FoundRow (Rows Stations) used t key o → row_from 0 (rows_in (Rows Stations) t) o ≡ row_or (row_width (Rows Stations)) t o
-  station_of (RowIs i) h = row_of (Rows Stations) used t s key i (found_inside (Rows Stations) used t s key (RowIs i) h i refl)
-  station_of NoRow h = refl
+  station_of : (o : Option ℕ) → FoundRow (Rows Stations) used t key o → row_from 0 (rows_in (Rows Stations) t) o ≡ row_or (row_width (Rows Stations)) t o
+  station_of (Some i) h = row_of (Rows Stations) used t s key i (found_inside (Rows Stations) used t s key (Some i) h i refl)
+  station_of None h = refl
 
-  pub station_found : (o : RowOf) → FoundRow (Rows Stations) used t key o → (R : PerFile (List Row)) → R.stations ≡ rows_in (Rows Stations) t
+  pub station_found : (o : Option ℕ) → FoundRow (Rows Stations) used t key o → (R : PerFile (List Row)) → R.stations ≡ rows_in (Rows Stations) t
       → RowFor (row_width (Rows Stations)) t (station_row R key) o
   unfolding station_row
   station_found o h R e =

@@ -1,4 +1,5 @@
 -- The rows of a table that pass a test, one row at a time: the loop that looks for one of them. Assumes nothing.
+use Rattle.std.specs.Prelude.{None, Some}
 use Prim.Native.Nat.{ℕ, suc, ◌+◌, ◌-◌, ◌*◌, ◌≤◌, ◌<◌}
 use mathlib.Core.Path.{◌≡◌, ap, ◌∙◌}
 use mathlib.Core.List.{List, [], ◌∷◌}
@@ -8,18 +9,17 @@ use native.Mathlib.Numerals.{add-one}
 use lib.ListN.{length, get_or}
 use Rattle.iff.specs.Lists.{kept}
 use Rattle.iff.specs.Tables.{Row, row_at}
-use Rattle.iff.specs.declared.RowOf.TheVariants.{Row as RowIs, NoRow}
 use Rattle.tables.proofs.Rows.{row_inside}
 use Rattle.keys.specs.Blocks.{rows_between}
 use Rattle.walks.proofs.GroupLaws.{between_none, between_first}
 use Rattle.store.specs.Found.{RowFor}
 
 -- a row that was looked for, and that is none
-pub row_for_none : (w : ℕ) (t : List ℕ) (row : Row) → row ≡ [] → RowFor w t row NoRow
+pub row_for_none : (w : ℕ) (t : List ℕ) (row : Row) → row ≡ [] → RowFor w t row None
 row_for_none w t row e =
     record { is = e; stands = λ j q. let z : ◌≡◌ {A = ℕ} 0 1 = cc in absurd (omega arith) }
 
-pub row_for : (w : ℕ) (t : List ℕ) (row : Row) (i : ℕ) → row ≡ row_at w t i → i * w + w ≤ length t → RowFor w t row (RowIs i)
+pub row_for : (w : ℕ) (t : List ℕ) (row : Row) (i : ℕ) → row ≡ row_at w t i → i * w + w ≤ length t → RowFor w t row (Some i)
 row_for w t row i e h =
     record {
       is = e;
@@ -32,7 +32,7 @@ module _ (p : Row → Bool) (w : ℕ) (t : List ℕ) (to i : ℕ) where
   kept_none h = rw (between_none w t i to h)
 
   -- the loop has come to its end
-  pub row_none : (row : Row) (k : ℕ) → row ≡ get_or (kept p (rows_between w t i to)) k [] → to ≤ i → RowFor w t row NoRow
+  pub row_none : (row : Row) (k : ℕ) → row ≡ get_or (kept p (rows_between w t i to)) k [] → to ≤ i → RowFor w t row None
   row_none row k e h = row_for_none w t row (e ∙ rw (kept_none h))
 
   module _ (h : i < to) (b : Bool) (e : b ≡ p (row_at w t i)) where
@@ -46,7 +46,7 @@ module _ (p : Row → Bool) (w : ℕ) (t : List ℕ) (to i : ℕ) where
 
     -- it is row i
     pub row_here_lem : (row : Row) (k : ℕ) → row ≡ get_or (kept p (rows_between w t i to)) k [] → b ≡ true → k ≡ 0 → to * w ≤ length t
-        → RowFor w t row (RowIs i)
+        → RowFor w t row (Some i)
     row_here_lem row k q g z f = row_for w t row i (q ∙ rw (kept_here g, z)) (row_inside w i to (length t) h f)
 
     -- it is not, whether row i passes or not

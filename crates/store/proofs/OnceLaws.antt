@@ -1,4 +1,5 @@
 -- Where no two rows name one key, a row that names it is the first that does. Assumes nothing.
+use Rattle.std.specs.Prelude.{None, Option, Some}
 use Prim.Native.Nat.{ℕ, zero, suc, ◌+◌, ◌/◌, ◌≤◌, ◌<◌}
 use mathlib.Core.Path.{◌≡◌, refl, ap, sym, ◌∙◌}
 use mathlib.Core.List.{List, [], ◌∷◌}
@@ -11,13 +12,12 @@ use lib.ListN.{length, get_or}
 use Rattle.iff.specs.Lists.{any, kept, has}
 use Rattle.iff.specs.Tables.{Row, word, tag, row_width, row_at, rows_in, key_tag, key_word, keys_of, keyed, first_row}
 use Rattle.iff.specs.declared.File.{File}
-use Rattle.iff.specs.declared.RowOf.{RowOf}
-use Rattle.iff.specs.declared.RowOf.TheVariants.{Row as RowIs, NoRow}
 use Rattle.iff_laws.specs.TruthLaws.{both, says_any}
 use Rattle.iff_desk.specs.Sound.{passes, followed_by, distinct}
 use Rattle.tables.proofs.Rows.{row_is}
 use Rattle.tables.proofs.Keys.{has_keys}
-use Rattle.tables.proofs.First.{found, any_found}
+use Rattle.tables.proofs.First.{any_found}
+use Rattle.std.specs.Option.{is_some}
 use Rattle.keys.specs.Lookup.{at_most, keys_among, FoundRow}
 use Rattle.keys.proofs.Among.{keys_counted}
 use Rattle.store.specs.Found.{Stored}
@@ -79,7 +79,7 @@ module _ (f : File) (key : ℕ) where
       go false q = rw q
 
   first_in_lem : (seen : List ℕ) (rs : List Row) (k i : ℕ) → fresh_from seen (keys_of f rs) ≡ true → i < length rs → names (get_or rs i []) ≡ true
-      → first_row names k rs ≡ RowIs (k + i)
+      → first_row names k rs ≡ Some (k + i)
   unfolding first_row passes
   first_in_lem seen [] k i e h n = absurd (omega arith)
   first_in_lem seen (r ∷ rs) k zero e h n =
@@ -93,8 +93,8 @@ module _ (f : File) (key : ℕ) where
       later = (says_any [] names rs).1 (record { which = i; inside = omega arith; has_it = n })
 
       go : (a b : Bool) → eqb (word r (key_word f)) key ≡ b → fresh_from seen (keys_with a r rs) ≡ true
-          → ((s : List ℕ) → fresh_from s (keys_of f rs) ≡ true → first_row names (suc k) rs ≡ RowIs (suc k + i))
-          → cond (a && b) (RowIs k) (first_row names (suc k) rs) ≡ RowIs (k + suc i)
+          → ((s : List ℕ) → fresh_from s (keys_of f rs) ≡ true → first_row names (suc k) rs ≡ Some (suc k + i))
+          → cond (a && b) (Some k) (first_row names (suc k) rs) ≡ Some (k + suc i)
       go true true q e ih =
           let y = eqb-true (word r (key_word f)) key q in
           let z = both (fresh seen (word r (key_word f))) (fresh_from (followed_by seen (word r (key_word f))) (keys_of f rs)) e in
@@ -119,25 +119,25 @@ no_more n most = go (ltb n most) refl
 -- THE ROW OF A KEY in a table of a sound store
 module _ (f : File) (used : ℕ) (t : List ℕ) (key : ℕ) (s : Stored f used t) where
   first_found : (i : ℕ) → i < length (rows_in f t) → keyed (key_tag f) (key_word f) key (row_at (row_width f) t i) ≡ true
-      → RowIs i ≡ first_row (keyed (key_tag f) (key_word f) key) 0 (rows_in f t)
+      → Some i ≡ first_row (keyed (key_tag f) (key_word f) key) 0 (rows_in f t)
   unfolding distinct
   first_found i h n =
       sym (first_in_lem f key [] (rows_in f t) 0 i s.once h (rw (row_is (row_width f) (length t / row_width f) t i h) n) ∙ rw zero-add)
 
-  none_found : has key (keys_among f used t) ≡ false → NoRow ≡ first_row (keyed (key_tag f) (key_word f) key) 0 (rows_in f t)
+  none_found : has key (keys_among f used t) ≡ false → None ≡ first_row (keyed (key_tag f) (key_word f) key) 0 (rows_in f t)
   none_found e = go (first_row (keyed (key_tag f) (key_word f) key) 0 (rows_in f t)) refl
     where
       none : any (keyed (key_tag f) (key_word f) key) (rows_in f t) ≡ false
       none = sym (has_keys f key (rows_in f t)) ∙ rw (keys_counted f t used s.counted) at e
 
-      go : (r : RowOf) → first_row (keyed (key_tag f) (key_word f) key) 0 (rows_in f t) ≡ r → NoRow ≡ r
-      go (RowIs i) q =
-          absurd (true≢false (ap found (sym q) ∙ any_found (keyed (key_tag f) (key_word f) key) 0 (rows_in f t) ∙ none))
-      go NoRow q = refl
+      go : (r : Option ℕ) → first_row (keyed (key_tag f) (key_word f) key) 0 (rows_in f t) ≡ r → None ≡ r
+      go (Some i) q =
+          absurd (true≢false (ap is_some (sym q) ∙ any_found (keyed (key_tag f) (key_word f) key) 0 (rows_in f t) ∙ none))
+      go None q = refl
 
   -- what a lookup finds is the first row that names the key
-  pub found_first : (r : RowOf) → FoundRow f used t key r → r ≡ first_row (keyed (key_tag f) (key_word f) key) 0 (rows_in f t)
-  found_first (RowIs i) h =
+  pub found_first : (r : Option ℕ) → FoundRow f used t key r → r ≡ first_row (keyed (key_tag f) (key_word f) key) 0 (rows_in f t)
+  found_first (Some i) h =
       let k = h.found i refl in
       first_found i (omega (arith, k.inside, s.counted, no_more used (length t / row_width f))) k.names
-  found_first NoRow h = none_found (h.none refl)
+  found_first None h = none_found (h.none refl)

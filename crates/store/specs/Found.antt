@@ -1,12 +1,10 @@
 -- What a lookup in a sound store asks of a table, and what it answers: some rows of the table, one row, or none.
-use Rattle.std.specs.Prelude.{ℕ, ◌+◌, ◌*◌, ◌≤◌, ◌≡◌, List, true, length}
+use Rattle.std.specs.Prelude.{ℕ, ◌+◌, ◌*◌, ◌≤◌, ◌≡◌, List, true, length, None, Option, Some}
 use Rattle.iff.specs.Bytes.{hash}
 use Rattle.iff.specs.Tables.{Row, row_width, row_at, rows_in, key_tag, key_word, keys_of}
 use Rattle.iff.specs.Words.{line_count, stop_count}
 use Rattle.iff.specs.declared.File.{File}
 use Rattle.iff.specs.declared.File.TheVariants.{Timetbls}
-use Rattle.iff.specs.declared.RowOf.{RowOf}
-use Rattle.iff.specs.declared.RowOf.TheVariants.{Row as RowIs, NoRow}
 use Rattle.iff_rules.specs.Rows.{first_of}
 use Rattle.iff_rules.specs.Legs.{stops_of}
 use Rattle.iff_desk.specs.Sound.{distinct}
@@ -45,14 +43,14 @@ pub record BlocksTold (t : List ℕ) : Type 0 where
   pub stops : (key : ℕ) → stops_of (group_of key (rows_in Timetbls t)) ≡ stop_count (first_of (group_of key (rows_in Timetbls t)))
 
 -- A ROW that was looked for, and what a reader takes it for where there is none
-abbrev pub row_or : ℕ → List ℕ → RowOf → Row
-row_or w t (RowIs i) = row_at w t i
-row_or w t NoRow = no_row
+abbrev pub row_or : ℕ → List ℕ → Option ℕ → Row
+row_or w t (Some i) = row_at w t i
+row_or w t None = no_row
 
-abbrev pub Stands : ℕ → List ℕ → RowOf → Type 0
-Stands w t r = (i : ℕ) → r ≡ RowIs i → i * w + w ≤ length t
+abbrev pub Stands : ℕ → List ℕ → Option ℕ → Type 0
+Stands w t r = (i : ℕ) → r ≡ Some i → i * w + w ≤ length t
 
 -- what was looked for is that row
-pub record RowFor (w : ℕ) (t : List ℕ) (row : Row) (r : RowOf) : Type 0 where
+pub record RowFor (w : ℕ) (t : List ℕ) (row : Row) (r : Option ℕ) : Type 0 where
   pub is : row ≡ row_or w t r
   pub stands : Stands w t r

@@ -2,19 +2,16 @@
 // number of its rows in use and with places, a hint where its keys stand, on which nothing rests; or with an exact index of its keys.
 #![tactic(auto)]
 
-ghost use Rattle.std.specs.Prelude.{◌≡◌, ℕ, ◌<◌, length, List};
+ghost use Rattle.std.specs.Prelude.{◌≡◌, ℕ, ◌<◌, length, List, Some};
 ghost use Rattle.iff.specs.Files.{PerFile};
 ghost use Rattle.iff.specs.Tables.{Row, row_width, rows_in, word};
 ghost use Rattle.iff.specs.declared.RowFile.TheVariants.{Stations};
 ghost use Rattle.iff.specs.declared.File.TheVariants.{Delivery, Rows, Timetbls};
-ghost use Rattle.iff.specs.declared.RowOf.TheVariants.{Row as RowIs};
 ghost use Rattle.iff_rules.specs.Rows.{first_of};
 ghost use Rattle.iff_desk.specs.Store.{station_row};
 ghost use Rattle.keys.specs.Lookup.{FoundRow};
 ghost use Rattle.slots.specs.Slots.{Index};
 ghost use Rattle.store.specs.Found.{Stored, HasGroups, GroupAt, BlocksTold, row_or, Stands, RowFor};
-
-use iff::RowOf;
 
 // How many words a row of TIMEZONE has, and one of STATIONS.
 pub const ZONE_WIDTH: usize = 6;
@@ -29,28 +26,28 @@ pub struct Part {
 }
 
 // Word `k` of a row that was looked for; 0 where there is none.
-pub fn word_of(t: &[u64], w: usize, row: RowOf, k: usize) -> u64
+pub fn word_of(t: &[u64], w: usize, row: Option<usize>, k: usize) -> u64
     requires { (k < w) × Stands w t.now row }
     ensures { result ≡ word (row_or w t.now row) k }
 {
     match row {
-        RowOf::Row(i) => tables::word_at(t, w, i, k),
-        RowOf::NoRow => 0,
+        Some(i) => tables::word_at(t, w, i, k),
+        None => 0,
     }
 }
 
 // The group of a row that was looked up by its key, whatever found it: up to the next `#`. No row where there is none.
-fn group_from(file: iff::File, t: &[u64], used: usize, row: RowOf) -> Part
-    requires { Stored file used t.now × HasGroups file × ((i : ℕ) → row ≡ RowIs i → i < used) }
+fn group_from(file: iff::File, t: &[u64], used: usize, row: Option<usize>) -> Part
+    requires { Stored file used t.now × HasGroups file × ((i : ℕ) → row ≡ Some i → i < used) }
     ensures { (key : ℕ) → FoundRow file used t.now key row → GroupAt file used t.now key result }
 {
     let w = tables::row_width(file);
     match row {
-        RowOf::Row(i) => Part {
+        Some(i) => Part {
             from: i,
             to: walks::next_head(t, w, i + 1, used),
         },
-        RowOf::NoRow => Part { from: 0, to: 0 },
+        None => Part { from: 0, to: 0 },
     }
 }
 
@@ -68,7 +65,7 @@ pub fn find_block(t: &[u64], used: usize, places: &[u32], key: u64) -> Part
     requires { Stored Timetbls used t.now × BlocksTold t.now }
     ensures { GroupAt Timetbls used t.now key result }
 {
-    let RowOf::Row(i) = lookups::find_at(iff::File::Timetbls, t, used, places, key) else {
+    let Some(i) = lookups::find_at(iff::File::Timetbls, t, used, places, key) else {
         return Part { from: 0, to: 0 };
     };
     let lines = tables::word_at(t, tables::BLOCK_WIDTH, i, iff::words::LINE_COUNT) as usize;
@@ -86,7 +83,7 @@ pub fn find_group_surely(file: iff::File, t: &[u64], used: usize, heads: &[u32],
 }
 
 // The row of a station.
-pub fn find_station(t: &[u64], used: usize, places: &[u32], key: u64) -> RowOf
+pub fn find_station(t: &[u64], used: usize, places: &[u32], key: u64) -> Option<usize>
     requires { Stored (Rows Stations) used t.now }
     ensures { (R : PerFile (List Row))
         → R.stations ≡ rows_in (Rows Stations) t.now

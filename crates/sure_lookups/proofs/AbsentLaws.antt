@@ -1,4 +1,5 @@
 -- A key that is not there. Assumes nothing.
+use Rattle.std.specs.Prelude.{None}
 use Prim.Native.Nat.{ℕ, ◌*◌, ◌≤◌, ◌<◌}
 use mathlib.Core.Path.{◌≡◌, ap, sym, ◌∙◌}
 use mathlib.Core.List.{List}
@@ -6,7 +7,6 @@ use mathlib.Core.Bool.{false}
 use borrow.Author.Tests.{ne_eqb}
 use lib.ListN.{length, get_or}
 use Rattle.iff.specs.declared.File.{File}
-use Rattle.iff.specs.declared.RowOf.TheVariants.{NoRow}
 use Rattle.iff.specs.Lists.{has}
 use Rattle.iff.specs.Tables.{tag, row_width, row_at, key_tag}
 use Rattle.keys.specs.Lookup.{keys_among, FoundRow}
@@ -29,5 +29,5 @@ module _ (f : File) (t : List ℕ) (used : ℕ) where
       ap (has key) (keys_there f t used room)
       ∙ new_by_free f t used (length ps) ps x wide few key (first_names_none word tagged e g n) s free
 
-  pub found_nowhere : (key : ℕ) → has key (keys_among f used t) ≡ false → FoundRow f used t key NoRow
+  pub found_nowhere : (key : ℕ) → has key (keys_among f used t) ≡ false → FoundRow f used t key None
   found_nowhere key e = record { found = (hit_none f used t key).found; none = λ z. e }

@@ -7,7 +7,6 @@ ghost use Rattle.iff.specs.Tables.{row_width};
 ghost use Rattle.keys.specs.Lookup.{keys_among, FoundRow};
 ghost use Rattle.slots.specs.Slots.{Index};
 
-use iff::RowOf;
 use slots::Met;
 
 // The slots say that no row names a key. They say nothing where they are too few, or rows are too many for them, or where row 0, which is in no slot,
@@ -35,15 +34,21 @@ pub fn is_absent(file: iff::File, t: &[u64], used: usize, heads: &[u32], key: u6
 
 // The row of a key among the first `used` rows: at its place, or nowhere where the slots say so, else by a search. A caller who has no such index
 // lends no slots.
-pub fn find_surely(file: iff::File, t: &[u64], used: usize, heads: &[u32], key: u64) -> RowOf
+pub fn find_surely(
+    file: iff::File,
+    t: &[u64],
+    used: usize,
+    heads: &[u32],
+    key: u64,
+) -> Option<usize>
     requires { Index file t.now used (length heads.now) heads.now × (used * row_width file ≤ length t.now) }
     ensures { FoundRow file used t.now key result }
 {
     match key_places::found_by_place(file, t, used, heads, key) {
-        RowOf::Row(i) => RowOf::Row(i),
-        RowOf::NoRow => {
+        Some(i) => Some(i),
+        None => {
             if is_absent(file, t, used, heads, key) {
-                return RowOf::NoRow;
+                return None;
             }
             lookups::find_among(file, t, used, key)
         }

@@ -10,20 +10,12 @@ pub fn put_row(t: &mut [u64], w: usize, i: usize, row: &[u64])
     ensures { t.new ≡ put_row w t.old i row.now }
 {
     let at = i * w;
-    let mut k = 0;
-    while k < w {
-        t[at + k] = row[k];
-        k += 1;
-    }
+    t[at..at + w].copy_from_slice(row);
 }
 
 // A table that holds nothing: all its words zero.
 pub fn clear(t: &mut [u64])
     ensures { t.new ≡ replicate (length t.old) 0 }
 {
-    let mut i = 0;
-    while i < t.len() {
-        t[i] = 0;
-        i += 1;
-    }
+    t.fill(0);
 }

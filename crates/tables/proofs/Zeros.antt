@@ -1,27 +1,32 @@
--- Words that are all zero. Assumes nothing.
-use Prim.Native.Nat.{ℕ, ◌+◌, ◌≤◌, ◌<◌}
-use mathlib.Core.Path.{◌≡◌, sym, ◌∙◌}
-use mathlib.Core.List.{List}
-use mathlib.Core.Bool.{true, false, ◌&&◌}
-use native.Mathlib.Numerals.{add-one}
-use borrow.Author.Tests.{eq-eqb, ne_eqb}
-use lib.Dec.{eqb}
-use lib.ListN.{length, get_or, drop, drop_of_length-le}
-use lib.Seq.{drop-cons}
+-- Words that are all zero, from a place on that may lie behind the end. Assumes nothing.
+use Prim.Native.Nat.{ℕ, ◌-◌, min}
+use mathlib.Core.Path.{◌≡◌, refl, sym, ◌∙◌}
+use mathlib.Core.List.{List, [], ◌∷◌}
+use mathlib.Core.Bool.{Bool, true, false}
+use native.Mathlib.Omega.{arith}
+use borrow.Author.Tests.{leb-true, leb-false}
+use lib.Dec.{leb, eqb}
+use lib.ListN.{length, take, drop, length-drop, drop_of_length-le}
+use lib.Seq.{take_all}
+use Rattle.std.specs.List.{list_all}
 use Rattle.iff.specs.Lists.{all}
 use Rattle.iff.specs.Tables.{all_zero}
 
-module _ (t : List ℕ) (i : ℕ) where
-  zero_at : i < length t → all_zero (drop i t) ≡ (eqb 0 (get_or t i 0) && all_zero (drop (i + 1) t))
-  unfolding all
-  zero_at h = rw (drop-cons t i 0, add-one)
+-- std's word for the same test
+pub zeros_are : (t : List ℕ) → list_all (eqb 0) t ≡ all_zero t
+unfolding all
+zeros_are [] = refl
+zeros_are (x ∷ t) = rw (zeros_are t)
 
-  pub zero_on : i < length t → get_or t i 0 ≡ 0 → all_zero (drop i t) ≡ all_zero (drop (i + 1) t)
-  zero_on h e = zero_at h ∙ rw (eq-eqb 0 _ (sym e))
+-- nothing is left from the end on, and from any place behind it
+same_rest : (t : List ℕ) (from m : ℕ) → m ≡ min from (length t) → drop m t ≡ drop from t
+same_rest t from m e = go (leb from (length t)) refl
+  where
+    go : (b : Bool) → leb from (length t) ≡ b → drop m t ≡ drop from t
+    go true q =
+        let k : m ≡ from = omega (arith, leb-true from (length t) q) in
+        rw k
+    go false q = drop_of_length-le t (omega (arith, leb-false from (length t) q)) ∙ sym (drop_of_length-le t (omega (arith, leb-false from (length t) q)))
 
-  pub zero_not : i < length t → (get_or t i 0 ≡ 0 → ⊥) → all_zero (drop i t) ≡ false
-  zero_not h e = zero_at h ∙ rw (ne_eqb 0 (get_or t i 0) (λ q. e (sym q)))
-
-  pub zero_end : length t ≤ i → all_zero (drop i t) ≡ true
-  unfolding all
-  zero_end h = rw (drop_of_length-le t h)
+pub rest_from : (t : List ℕ) (from m : ℕ) → m ≡ min from (length t) → take (length t - m) (drop m t) ≡ drop from t
+rest_from t from m e = take_all (length t - m) (drop m t) (rw length-drop (omega arith)) ∙ same_rest t from m e

@@ -38,7 +38,7 @@ pub fn room(file: iff::File, length: usize) -> usize
 pub fn word_or_zero(t: &[u64], k: usize) -> u64
     ensures { result ≡ get_or t.now k 0 }
 {
-    if k < t.len() { t[k] } else { 0 }
+    t.get(k).copied().unwrap_or(0)
 }
 
 // Word `k` of row `i`.
@@ -53,14 +53,7 @@ pub fn word_at(t: &[u64], w: usize, i: usize, k: usize) -> u64
 pub fn zero_from(t: &[u64], from: usize) -> bool
     ensures { result ≡ all_zero (drop from t.now) }
 {
-    let mut at = from;
-    while at < t.len() {
-        if t[at] != 0 {
-            return false;
-        }
-        at += 1;
-    }
-    true
+    t[from.min(t.len())..].iter().all(|word| *word == 0)
 }
 
 // How many rows a table holds: up to the first whose first word is 0.
@@ -69,14 +62,12 @@ pub fn row_count(t: &[u64], w: usize) -> usize
     ensures { result ≡ length (rows_of_width w t.now) }
 {
     let rows = t.len() / w;
-    let mut i = 0;
-    while i < rows {
+    for i in 0..rows {
         if word_at(t, w, i, iff::words::TAG) == 0 {
             return i;
         }
-        i += 1;
     }
-    i
+    rows
 }
 
 // Row `i` has this tag and, in word `col`, this key.

@@ -1,16 +1,16 @@
 -- Laws of lines: where the first line of a text ends, and what stands behind it. Assumes nothing.
-use Prim.Native.Nat.{ℕ, suc, ◌+◌, ◌-◌, ◌≤◌, ◌<◌}
+use Rattle.std.specs.Prelude.{None, Some}
+use Prim.Native.Nat.{ℕ, suc, ◌+◌, ◌-◌, ◌≤◌, ◌<◌, min}
 use mathlib.Core.Path.{◌≡◌, refl, ap, sym, ◌∙◌}
 use mathlib.Core.List.{List, [], ◌∷◌}
 use mathlib.Core.Bool.{Bool, true, false, cond, and-false, false≢true}
 use native.Mathlib.Nat.{add-zero}
 use native.Mathlib.Omega.{arith}
 use native.Mathlib.Numerals.{add-one, add-two}
-use lib.Dec.{leb-suc-suc, eqb, ltb}
+use lib.Dec.{leb-suc-suc, leb, eqb, ltb}
 use lib.ListN.{length, get_or, take, drop, length-drop, drop_of_length-le}
 use lib.Seq.{drop-cons, get_or-drop, drop-drop, take_all, take-nil}
-use borrow.Author.Tests.{lt-ltb, le-ltb, ltb-true, ltb-false}
-use Rattle.iff.specs.declared.Eol.TheVariants.{Ended, Unended}
+use borrow.Author.Tests.{lt-ltb, le-ltb, ltb-true, ltb-false, leb-true, leb-false}
 use Rattle.iff.specs.Bytes.{cr}
 use Rattle.iff.specs.Lines.{Line, crlf, before, lines, width, first_line, eol_at}
 use Rattle.text.specs.Spans.{LineAt}
@@ -69,12 +69,12 @@ module _ (t : List ℕ) (at i : ℕ) where
   abbrev pub Looking : Type 0
   Looking = (at ≤ i) × (i ≤ length t) × (at + width (drop at t) ≡ i + width (drop i t))
 
-  pub found : i < length t → crlf (get_or t i 0) (get_or t (i + 1) 0) ≡ true → Looking → Ended i ≡ eol_at t at
+  pub found : i < length t → crlf (get_or t i 0) (get_or t (i + 1) 0) ≡ true → Looking → Some i ≡ eol_at t at
   found h e l =
       let w : at + width (drop at t) ≡ i = omega (arith, rw e at (width_at t i h)) in
       rw (w, lt-ltb i (length t) h)
 
-  pub not_found : length t ≤ i → Looking → Unended ≡ eol_at t at
+  pub not_found : length t ≤ i → Looking → None ≡ eol_at t at
   unfolding width
   not_found h l =
       let w : at + width (drop at t) ≡ length t = omega (arith, ap width (drop_of_length-le t {i = i} h)) in
@@ -101,10 +101,10 @@ pub record EndedAt (t : List ℕ) (at e : ℕ) : Type 0 where
   pub head : lines (drop at t) ≡ whole t at e ∷ lines (drop (e + 2) t)
 
 module _ (t : List ℕ) (at : ℕ) (h : at < length t) where
-  pub after_ended : (e : ℕ) → eol_at t at ≡ Ended e → EndedAt t at e
+  pub after_ended : (e : ℕ) → eol_at t at ≡ Some e → EndedAt t at e
   after_ended e q = go (ltb (at + width (drop at t)) (length t)) refl q
     where
-      go : (b : Bool) → ltb (at + width (drop at t)) (length t) ≡ b → cond b (Ended (at + width (drop at t))) Unended ≡ Ended e → EndedAt t at e
+      go : (b : Bool) → ltb (at + width (drop at t)) (length t) ≡ b → cond b (Some (at + width (drop at t))) None ≡ Some e → EndedAt t at e
       go false b q' = absurd (let z : ◌≡◌ {A = ℕ} 0 1 = cc in omega arith)
       go true b q' =
           let w : at + width (drop at t) ≡ e = cc in
@@ -119,10 +119,10 @@ module _ (t : List ℕ) (at : ℕ) (h : at < length t) where
             head = lines_step (drop at t) (omega arith) ∙ rw (drop-drop, k, m, lt-ltb _ _ l);
           }
 
-  pub after_unended : eol_at t at ≡ Unended → lines (drop at t) ≡ remainder t at ∷ []
+  pub after_unended : eol_at t at ≡ None → lines (drop at t) ≡ remainder t at ∷ []
   after_unended q = go (ltb (at + width (drop at t)) (length t)) refl q
     where
-      go : (b : Bool) → ltb (at + width (drop at t)) (length t) ≡ b → cond b (Ended (at + width (drop at t))) Unended ≡ Unended
+      go : (b : Bool) → ltb (at + width (drop at t)) (length t) ≡ b → cond b (Some (at + width (drop at t))) None ≡ None
           → lines (drop at t) ≡ remainder t at ∷ []
       go true b q' = absurd (let z : ◌≡◌ {A = ℕ} 0 1 = cc in omega arith)
       go false b q' =
@@ -138,12 +138,12 @@ lines_end t at h = ap lines (drop_of_length-le t h) ∙ lines_nil
 
 -- the same as one record of facts, for every index into the line
 module _ (t : List ℕ) (at : ℕ) (h : at < length t) where
-  pub span_ended : (e : ℕ) → eol_at t at ≡ Ended e → LineAt t at (record { end = e; ended = true; next = e + 2 })
+  pub span_ended : (e : ℕ) → eol_at t at ≡ Some e → LineAt t at (record { end = e; ended = true; next = e + 2 })
   span_ended e q =
       let a = after_ended t at h e q in
       record { low = a.low; top = omega arith; more = omega arith; high = a.high; head = a.head }
 
-  pub span_unended : eol_at t at ≡ Unended → LineAt t at (record { end = length t; ended = false; next = length t })
+  pub span_unended : eol_at t at ≡ None → LineAt t at (record { end = length t; ended = false; next = length t })
   span_unended q =
       record {
         low = omega arith;
@@ -157,12 +157,12 @@ module _ (t : List ℕ) (at : ℕ) (h : at < length t) where
 abbrev pub Counted : List ℕ → ℕ → ℕ → Type 0
 Counted t n at = (n ≤ at) × (at ≤ length t) × (n + length (lines (drop at t)) ≡ length (lines t))
 
-pub counted_ended : (t : List ℕ) (n at e : ℕ) → at < length t → eol_at t at ≡ Ended e → Counted t n at → Counted t (n + 1) (e + 2)
+pub counted_ended : (t : List ℕ) (n at e : ℕ) → at < length t → eol_at t at ≡ Some e → Counted t n at → Counted t (n + 1) (e + 2)
 counted_ended t n at e h q i =
     let a = after_ended t at h e q in
     (omega arith, a.high, omega (arith, ap length a.head))
 
-pub counted_unended : (t : List ℕ) (n at : ℕ) → at < length t → eol_at t at ≡ Unended → Counted t n at → Counted t (n + 1) (length t)
+pub counted_unended : (t : List ℕ) (n at : ℕ) → at < length t → eol_at t at ≡ None → Counted t n at → Counted t (n + 1) (length t)
 counted_unended t n at h q i =
     (omega arith, omega arith, omega (arith, ap length (after_unended t at h q), ap length (lines_end t (length t) (omega arith))))
 
@@ -170,9 +170,25 @@ pub counted_end : (t : List ℕ) (n at : ℕ) → length t ≤ at → Counted t 
 counted_end t n at h i = omega (arith, ap length (lines_end t at h))
 
 -- SOME COLUMNS OF A LINE, where it is too short for them: none, or those that are left
-pub no_columns : (s : List ℕ) (from to : ℕ) → length s ≤ from → [] ≡ take (to - from) (drop from s)
+no_columns : (s : List ℕ) (from to : ℕ) → length s ≤ from → [] ≡ take (to - from) (drop from s)
 no_columns s from to h = rw (drop_of_length-le s h, take-nil)
 
-pub few_columns : (s : List ℕ) (from to : ℕ) → length s < to → take (length s - from) (drop from s) ≡ take (to - from) (drop from s)
+few_columns : (s : List ℕ) (from to : ℕ) → length s < to → take (length s - from) (drop from s) ≡ take (to - from) (drop from s)
 few_columns s from to h =
     rw (take_all (length s - from) (drop from s) (rw length-drop (omega arith)), take_all (to - from) (drop from s) (rw length-drop (omega arith)))
+
+pub columns_there : (s : List ℕ) (from to a b : ℕ) → a ≡ min from (length s) → b ≡ min to (length s) → take (b - a) (drop a s) ≡ take (to - from) (drop from s)
+columns_there s from to a b ea eb = go (leb from (length s)) refl (leb to (length s)) refl
+  where
+    go : (p : Bool) → leb from (length s) ≡ p → (q : Bool) → leb to (length s) ≡ q → take (b - a) (drop a s) ≡ take (to - from) (drop from s)
+    go true p true q =
+        let i : a ≡ from = omega (arith, leb-true from (length s) p) in
+        let j : b ≡ to = omega (arith, leb-true to (length s) q) in
+        rw (i, j)
+    go true p false q =
+        let i : a ≡ from = omega (arith, leb-true from (length s) p) in
+        let j : b ≡ length s = omega (arith, leb-false to (length s) q) in
+        rw (i, j) (few_columns s from to (leb-false to (length s) q))
+    go false p q e =
+        let i : length s ≤ a = omega (arith, leb-false from (length s) p) in
+        rw (drop_of_length-le s i, take-nil) (no_columns s from to (omega (arith, leb-false from (length s) p)))

@@ -9,6 +9,8 @@ use lib.Dec.{eqb}
 use lib.ListN.{length, get_or, take, drop, replicate, drop_of_length-le}
 use lib.Seq.{drop-cons}
 use borrow.Author.Tests.{eq-eqb, eqb-true}
+use Rattle.std.specs.List.{list_all, zip}
+use Rattle.std.specs.Cmp.Lexicographic.{pointwise}
 use Rattle.iff.specs.Bytes.{digit, zero_or_one}
 use Rattle.iff.specs.Lists.{all, all2, same}
 use Rattle.iff.specs.Columns.{figure, figures}
@@ -23,6 +25,12 @@ and_right true y q = q
 and_right false y q = absurd (false≢true q)
 
 -- ONE LIST
+-- std's word for the same test
+pub all_is : {A : Type 0} (p : A → Bool) (s : List A) → list_all p s ≡ all p s
+unfolding all
+all_is p [] = refl
+all_is p (b ∷ s) = rw (all_is p s)
+
 pub all_at : (p : ℕ → Bool) (s : List ℕ) → all p s ≡ true → (i : ℕ) → i < length s → p (get_or s i 0) ≡ true
 unfolding all
 all_at p [] e i h = absurd (omega arith)
@@ -76,6 +84,22 @@ pub holds_on : (p : ℕ → Bool) (s : List ℕ) (i : ℕ) → i < length s → 
 holds_on p s i h e l = (omega arith, l.1 ∙ holds_at p s i h ∙ rw e)
 
 -- TWO LISTS
+-- std's word for the same test
+pub all2_is : (f : ℕ → ℕ → Bool) (s t : List ℕ) → pointwise f s t ≡ all2 f s t
+unfolding all2
+all2_is f [] [] = refl
+all2_is f [] (p ∷ t) = refl
+all2_is f (b ∷ s) [] = refl
+all2_is f (b ∷ s) (p ∷ t) = rw (all2_is f s t)
+
+-- and of the pairs of two lists that are as long
+pub all_pairs : (f : ℕ → ℕ → Bool) (s t : List ℕ) → length s ≡ length t → list_all (λ (p : ℕ × ℕ). f p.0 p.1) (zip s t) ≡ all2 f s t
+unfolding all2
+all_pairs f [] [] e = refl
+all_pairs f [] (p ∷ t) e = absurd (omega arith)
+all_pairs f (b ∷ s) [] e = absurd (omega arith)
+all_pairs f (b ∷ s) (p ∷ t) e = rw (all_pairs f s t (omega arith))
+
 module _ (f : ℕ → ℕ → Bool) where
   -- lists of two lengths do not pass
   pub unequal : (s t : List ℕ) → (length s ≡ length t → ⊥) → all2 f s t ≡ false

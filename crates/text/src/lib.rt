@@ -26,7 +26,7 @@ pub fn is_allowed(b: u8) -> bool
 pub fn is_digit(b: u8) -> bool
     ensures { result ≡ digit b }
 {
-    b'0' <= b && b <= b'9'
+    b.is_ascii_digit()
 }
 
 pub fn is_mark(b: u8) -> bool
@@ -39,7 +39,7 @@ pub fn is_mark(b: u8) -> bool
 pub fn byte_at(text: &[u8], i: usize) -> u8
     ensures { result ≡ get_or text.now i 0 }
 {
-    if i < text.len() { text[i] } else { 0 }
+    text.get(i).copied().unwrap_or(0)
 }
 
 // The letter of a line's record.
@@ -62,19 +62,17 @@ fn ends(text: &[u8], i: usize) -> bool
     byte_at(text, i + 1) == b'\n'
 }
 
-// Where the line that starts at `at` ends.
-pub fn line_end(text: &[u8], at: usize) -> iff::Eol
+// Where the line that starts at `at` ends, if CR LF ends it.
+pub fn line_end(text: &[u8], at: usize) -> Option<usize>
     requires { at ≤ length text.now }
     ensures { result ≡ eol_at text.now at }
 {
-    let mut i = at;
-    while i < text.len() {
+    for i in at..text.len() {
         if ends(text, i) {
-            return iff::Eol::Ended(i);
+            return Some(i);
         }
-        i += 1;
     }
-    iff::Eol::Unended
+    None
 }
 
 // A line where it stands: its body is `at..end`, CR LF ends it or nothing does, and the next line begins at `next`.
@@ -91,12 +89,12 @@ pub fn line_at(text: &[u8], at: usize) -> LineSpan
     ensures { LineAt text.now at result }
 {
     match line_end(text, at) {
-        iff::Eol::Ended(e) => LineSpan {
+        Some(e) => LineSpan {
             end: e,
             ended: true,
             next: e + 2,
         },
-        iff::Eol::Unended => LineSpan {
+        None => LineSpan {
             end: text.len(),
             ended: false,
             next: text.len(),
@@ -109,30 +107,14 @@ pub fn columns_of(line: &[u8], from: usize, to: usize) -> &[u8]
     requires { from ≤ to }
     ensures { result.now ≡ take (to - from) (drop from line.now) }
 {
-    if line.len() <= from {
-        return &line[0..0];
-    }
-    if line.len() < to {
-        return &line[from..];
-    }
-    &line[from..to]
+    let end = line.len();
+    &line[from.min(end)..to.min(end)]
 }
 
 pub fn same_bytes(a: &[u8], b: &[u8]) -> bool
     ensures { result ≡ same a.now b.now }
 {
-    if a.len() != b.len() {
-        return false;
-    }
-    let mut bytes_left = a.len();
-    while 0 < bytes_left {
-        let i = a.len() - bytes_left;
-        if a[i] != b[i] {
-            return false;
-        }
-        bytes_left -= 1;
-    }
-    true
+    a == b
 }
 
 // Fields.
@@ -140,21 +122,14 @@ pub fn same_bytes(a: &[u8], b: &[u8]) -> bool
 pub fn all_digits(field: &[u8]) -> bool
     ensures { result ≡ all digit field.now }
 {
-    let mut digits: usize = 0;
-    while digits < field.len() {
-        if !is_digit(field[digits]) {
-            return false;
-        }
-        digits += 1;
-    }
-    true
+    field.iter().all(|b| is_digit(*b))
 }
 
 // What a byte counts for, above `off`: a digit above '0', a code's byte above 0.
 pub fn byte_value(b: u8, off: u8) -> u64
     ensures { (result ≡ b - off) × (result < 256) }
 {
-    if b < off { 0 } else { (b - off) as u64 }
+    u64::from(b.saturating_sub(off))
 }
 
 // The value of a field, first byte highest. Eight bytes in base 256 are what a word holds.
@@ -163,10 +138,8 @@ fn field_value(field: &[u8], base: u64, off: u8) -> u64
     ensures { result ≡ value base off 0 field.now }
 {
     let mut acc: u64 = 0;
-    let mut i: usize = 0;
-    while i < field.len() {
-        acc = acc * base + byte_value(field[i], off);
-        i += 1;
+    for b in field {
+        acc = acc * base + byte_value(*b, off);
     }
     acc
 }

@@ -1,14 +1,11 @@
 -- Numbers of texts: equal texts have equal numbers. Assumes nothing.
-use Prim.Native.Nat.{ℕ, ◌+◌, ◌≤◌, ◌<◌}
+use Prim.Native.Nat.{ℕ}
 use mathlib.Core.Path.{◌≡◌, refl, ap, sym, ◌∙◌, subst}
 use mathlib.Core.List.{List, [], ◌∷◌, ◌++◌, append-nil, append_assoc}
 use mathlib.Core.Bool.{Bool, true, false, ◌||◌, false≢true}
-use native.Mathlib.Numerals.{add-one}
-use native.Mathlib.Omega.{arith}
 use borrow.Author.Tests.{eq-eqb}
 use lib.Dec.{eqb}
-use lib.ListN.{length, get_or, drop, drop_of_length-le}
-use lib.Seq.{drop-cons}
+use Rattle.std.specs.List.{fold}
 use Rattle.iff.specs.Lists.{any, has, same}
 use Rattle.iff.specs.Lines.{Line}
 use Rattle.iff.specs.declared.RowFile.{RowFile}
@@ -21,29 +18,11 @@ use Rattle.fresh_texts.specs.Texts.{shares_text}
 use Rattle.fresh_texts.proofs.TextLaws.{shares}
 use Rattle.text_numbers.specs.Numbers.{next_number, text_number, columns_number, text_numbers, numbers_of, some_in}
 
--- A NUMBER BYTE BY BYTE: what is left, counted behind the number so far, is the whole
-pub record Numbered (text : List ℕ) (number i : ℕ) : Type 0 where
-  pub inside : i ≤ length text
-  pub whole : text_number 0 text ≡ text_number number (drop i text)
-
-pub numbered_none : (text : List ℕ) → Numbered text 0 0
-numbered_none text = record { inside = omega arith; whole = refl }
-
-pub numbered_next : (text : List ℕ) (number i next : ℕ) → i < length text → next ≡ next_number number (get_or text i 0) → Numbered text number i
-    → Numbered text next (i + 1)
+-- a number is counted byte by byte
+pub byte_by_byte : (text : List ℕ) (number : ℕ) → fold next_number number text ≡ text_number number text
 unfolding text_number
-numbered_next text number i next h e n =
-    record {
-      inside = omega arith;
-      whole = n.whole ∙ there;
-    }
-  where
-    there : text_number number (drop i text) ≡ text_number next (drop (i + 1) text)
-    there = rw (add-one, drop-cons text i 0 h, e)
-
-pub numbered_all : (text : List ℕ) (number i : ℕ) → length text ≤ i → Numbered text number i → number ≡ text_number 0 text
-unfolding text_number
-numbered_all text number i h n = sym (n.whole ∙ rw (drop_of_length-le text h))
+byte_by_byte [] number = refl
+byte_by_byte (b ∷ bs) number = byte_by_byte bs (next_number number b)
 
 -- TEXTS WHOSE NUMBERS DIFFER differ
 differ : (s t : List ℕ) → eqb (text_number 0 s) (text_number 0 t) ≡ false → same s t ≡ false

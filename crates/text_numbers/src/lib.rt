@@ -19,13 +19,8 @@ fn next_number(number: u64, byte: u8) -> u64
 fn text_number(text: &[u8]) -> u64
     ensures { result ≡ text_number 0 text.now }
 {
-    let mut number: u64 = 0;
-    let mut i: usize = 0;
-    while i < text.len() {
-        number = next_number(number, text[i]);
-        i += 1;
-    }
-    number
+    text.iter()
+        .fold(0, |number, byte| next_number(number, *byte))
 }
 
 // That of columns `from..to` of a line, as far as it goes.

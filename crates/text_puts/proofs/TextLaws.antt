@@ -48,11 +48,6 @@ full_front (x ∷ t) (suc at) b h = ap (λ (l : List ℕ). x ∷ l) (full_front 
 pub no_room : (t : List ℕ) (at b : ℕ) → length t ≤ at → Appended t at (b ∷ []) t at
 no_room t at b h = record { text = full_front t at b h; kept = refl; within = λ g. g }
 
--- the bytes of a text in turn
-pub record Putting (was : List ℕ) (at : ℕ) (text : List ℕ) (n : ℕ) (is : List ℕ) (to i : ℕ) : Type 0 where
-  pub so_far : Appended was at (take i text) is to
-  pub inside : i ≤ n
-
 -- A NUMBER'S DIGITS
 one_digit : (k n : ℕ) → n < 10 → digits k n ≡ last_digit n ∷ []
 unfolding digits

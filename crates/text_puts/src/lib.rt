@@ -20,12 +20,9 @@ pub fn put_byte(out: &mut [u8], at: usize, b: u8) -> usize
 pub fn put_bytes(out: &mut [u8], at: usize, text: &[u8]) -> usize
     ensures { Appended out.old at text.now out.new result }
 {
-    let n = text.len();
     let mut to = at;
-    let mut i = 0;
-    while i < n {
-        to = put_byte(out, to, text[i]);
-        i += 1;
+    for b in text {
+        to = put_byte(out, to, *b);
     }
     to
 }

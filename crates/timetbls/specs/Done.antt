@@ -1,9 +1,8 @@
 -- What the reader of TIMETBLS tells.
 use Rattle.std.specs.Prelude.{ℕ, ◌≡◌, List, true}
-use Rattle.iff.specs.Refusals.{fine}
+use Rattle.iff.specs.Refusals.{fine, Verdict}
 use Rattle.iff.specs.declared.File.TheVariants.{Timetbls}
 use Rattle.iff.specs.declared.Form.{Form}
-use Rattle.iff.specs.declared.Verdict.{Verdict}
 use Rattle.iff_rules.specs.Rows.{Context}
 use Rattle.reading.specs.Reading.{FileRead}
 use Rattle.block_walks.specs.Blocks.{Counted}

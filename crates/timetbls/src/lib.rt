@@ -26,18 +26,18 @@ fn stray_test(text: &[u8], from: usize) -> iff::Test
     ensures { StrayTold (lines (drop from text.now)) result }
 {
     if text.len() <= from {
-        return iff::Test::Passes;
+        return Ok(());
     }
     let span = text::line_at(text, from);
     let end = span.end;
     let letter = text::first_byte(&text[from..end]);
     if letter == b'#' {
-        return iff::Test::Passes;
+        return Ok(());
     }
     if first_bytes::is_known_in_block(letter) {
-        return iff::Test::Fails(iff::Reason::Order);
+        return Err(iff::Reason::Order);
     }
-    iff::Test::Fails(iff::Reason::Layout)
+    Err(iff::Reason::Layout)
 }
 
 // The lines after the first, which begin at `from`, into a table that holds the first line's row. A stray line is line 2 of block 0.
@@ -52,17 +52,21 @@ pub fn read_blocks(
     modes: &[u64],
     stations: &[u64],
     footnotes: &[u64],
-) -> block_walks::BlocksPut
+) -> Result<block_walks::BlocksPut, iff::Fault>
     requires { AfterFirst text.now from t.old }
     ensures { BlocksRead form text.now from
         companies.now modes.now stations.now footnotes.now t.old t.new result }
 {
     match stray_test(text, from) {
-        iff::Test::Fails(why) => {
-            let place = iff::Place::At(iff::File::Timetbls, 0, 2);
-            block_walks::BlocksPut::Refused(why, place)
+        Err(why) => {
+            let place = Some(iff::Place {
+                file: iff::File::Timetbls,
+                ordinal: 0,
+                line: 2,
+            });
+            Err(iff::Fault { reason: why, place })
         }
-        iff::Test::Passes => {
+        Ok(()) => {
             let counts = references::count_for_blocks(companies, modes, stations, footnotes);
             let mut places = [0u32; 16445];
             places::index_rows(
@@ -116,38 +120,45 @@ pub fn read_timetbls(
         header.now text.now v t.old t.new result }
 {
     match v {
-        iff::Verdict::Fault(r, p) => TimetblsRead {
-            verdict: iff::Verdict::Fault(r, p),
+        Err(fault) => TimetblsRead {
+            verdict: Err(fault),
             rows: 0,
             services: 0,
         },
-        iff::Verdict::Fine => {
+        Ok(()) => {
             if text.len() == 0 {
                 return TimetblsRead {
-                    verdict: iff::Verdict::Fine,
+                    verdict: Ok(()),
                     rows: 0,
                     services: 0,
                 };
             }
             match heads::begin_file(iff::File::Timetbls, text, header, t) {
-                reading::Begin::Broken(r) => TimetblsRead {
-                    verdict: iff::Verdict::Fault(r, iff::Place::At(iff::File::Timetbls, 0, 1)),
+                Err(r) => TimetblsRead {
+                    verdict: Err(iff::Fault {
+                        reason: r,
+                        place: Some(iff::Place {
+                            file: iff::File::Timetbls,
+                            ordinal: 0,
+                            line: 1,
+                        }),
+                    }),
                     rows: 0,
                     services: 0,
                 },
-                reading::Begin::Rest(from) => {
+                Ok(from) => {
                     match read_blocks(text, from, form, t, companies, modes, stations, footnotes) {
-                        block_walks::BlocksPut::Refused(r, p) => TimetblsRead {
-                            verdict: iff::Verdict::Fault(r, p),
+                        Err(fault) => TimetblsRead {
+                            verdict: Err(fault),
                             rows: 0,
                             services: 0,
                         },
-                        block_walks::BlocksPut::All(rises, rows, services) => {
-                            head_words::set_rises(t, rises);
+                        Ok(put) => {
+                            head_words::set_rises(t, put.rise);
                             TimetblsRead {
-                                verdict: iff::Verdict::Fine,
-                                rows: rows,
-                                services: services,
+                                verdict: Ok(()),
+                                rows: put.rows,
+                                services: put.services,
                             }
                         }
                     }

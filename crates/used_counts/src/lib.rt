@@ -13,6 +13,7 @@ pub fn used_by_halves(file: iff::File, t: &[u64]) -> usize
     let w = tables::row_width(file);
     let mut low = 0;
     let mut high = t.len() / w;
+    // A loop by hand: which half is left is known only from the row in the middle, so no range says it.
     while low < high {
         let middle = low + (high - low) / 2;
         if tables::word_at(t, w, middle, iff::words::TAG) == 0 {

@@ -1,4 +1,5 @@
 -- The second row of a group by its part of a table, and the words beyond a row. Assumes nothing.
+use Rattle.std.specs.Prelude.{None, Option, Some}
 use Prim.Native.Nat.{ℕ, zero, suc, ◌+◌, ◌-◌, ◌*◌, ◌≤◌, ◌<◌}
 use mathlib.Core.Path.{◌≡◌, refl, ap, sym, ◌∙◌}
 use mathlib.Core.List.{List, [], ◌∷◌}
@@ -10,8 +11,6 @@ use lib.Dec.{ltb}
 use lib.ListN.{length, get_or, take, drop}
 use Rattle.iff.specs.Tables.{Row, word, row_width, rows_in}
 use Rattle.iff.specs.declared.File.{File}
-use Rattle.iff.specs.declared.RowOf.{RowOf}
-use Rattle.iff.specs.declared.RowOf.TheVariants.{Row as RowIs, NoRow}
 use Rattle.iff_desk.specs.Store.{group_of}
 use Rattle.tables.proofs.Rows.{row_inside}
 use Rattle.keys.specs.Blocks.{rows_between}
@@ -27,9 +26,9 @@ beyond (suc w) [] k h = refl
 beyond (suc w) (x ∷ l) zero h = absurd (omega arith)
 beyond (suc w) (x ∷ l) (suc k) h = beyond w l k (omega arith)
 
-pub word_beyond : (w : ℕ) (t : List ℕ) (o : RowOf) (k : ℕ) → w ≤ k → 0 ≡ word (row_or w t o) k
-word_beyond w t (RowIs i) k h = beyond w (drop (i * w) t) k h
-word_beyond w t NoRow k h = refl
+pub word_beyond : (w : ℕ) (t : List ℕ) (o : Option ℕ) (k : ℕ) → w ≤ k → 0 ≡ word (row_or w t o) k
+word_beyond w t (Some i) k h = beyond w (drop (i * w) t) k h
+word_beyond w t None k h = refl
 
 -- one row or none has no second
 no_second : (w : ℕ) (t : List ℕ) (from to : ℕ) → to - from ≤ 1 → get_or (rows_between w t from to) 1 [] ≡ []
@@ -41,10 +40,10 @@ no_second w t from to h = go (ltb from to) refl
 
 -- THE SECOND ROW of a group
 module _ (f : File) (used : ℕ) (t : List ℕ) (key : ℕ) (p : Part) (g : GroupAt f used t key p) where
-  pub second_stands : (w : ℕ) → w ≡ row_width f → (o : RowOf) → o ≡ second_of p → Stands w t o
+  pub second_stands : (w : ℕ) → w ≡ row_width f → (o : Option ℕ) → o ≡ second_of p → Stands w t o
   second_stands w v o e i q = go (ltb 1 (p.to - p.from)) refl (sym q ∙ e)
     where
-      go : (b : Bool) → ltb 1 (p.to - p.from) ≡ b → RowIs i ≡ cond b (RowIs (p.from + 1)) NoRow → i * w + w ≤ length t
+      go : (b : Bool) → ltb 1 (p.to - p.from) ≡ b → Some i ≡ cond b (Some (p.from + 1)) None → i * w + w ≤ length t
       go true y z =
           let n : i ≡ p.from + 1 = cc in
           row_inside w i p.to (length t) (omega (arith, ltb-true 1 (p.to - p.from) y)) (rw v g.inside.fits)
@@ -54,7 +53,7 @@ module _ (f : File) (used : ℕ) (t : List ℕ) (key : ℕ) (p : Part) (g : Grou
   second_is = ap (λ (rs : List Row). get_or rs 1 []) g.is ∙ go (ltb 1 (p.to - p.from)) refl
     where
       go : (b : Bool) → ltb 1 (p.to - p.from) ≡ b
-          → get_or (rows_between (row_width f) t p.from p.to) 1 [] ≡ row_or (row_width f) t (cond b (RowIs (p.from + 1)) NoRow)
+          → get_or (rows_between (row_width f) t p.from p.to) 1 [] ≡ row_or (row_width f) t (cond b (Some (p.from + 1)) None)
       go true y =
           let l : 1 < p.to - p.from = ltb-true _ _ y in
           rw (

@@ -1,9 +1,7 @@
 -- Where a group's vector stands.
-use Rattle.std.specs.Prelude.{◌+◌, ◌-◌, cond, ltb}
-use Rattle.iff.specs.declared.RowOf.{RowOf}
-use Rattle.iff.specs.declared.RowOf.TheVariants.{Row as RowIs, NoRow}
+use Rattle.std.specs.Prelude.{◌+◌, ◌-◌, cond, ltb, None, Option, Some, ℕ}
 use Rattle.store.specs.declared.Part.{Part}
 
 -- the row behind a group's `#`
-abbrev pub second_of : Part → RowOf
-second_of p = cond (ltb 1 (p.to - p.from)) (RowIs (p.from + 1)) NoRow
+abbrev pub second_of : Part → Option ℕ
+second_of p = cond (ltb 1 (p.to - p.from)) (Some (p.from + 1)) None

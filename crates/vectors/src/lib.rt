@@ -8,18 +8,17 @@ ghost use Rattle.iff_desk.specs.Store.{marked, vector_of};
 ghost use Rattle.store.specs.Found.{Stored, row_or, Stands};
 ghost use Rattle.vectors.specs.Second.{second_of};
 
-use iff::RowOf;
 use store::Part;
 
 // The row behind a group's `#`: of a footnote's group, its vector.
-fn second_row(part: Part) -> RowOf
+fn second_row(part: Part) -> Option<usize>
     requires { part.from ≤ part.to }
     ensures { result ≡ second_of part }
 {
     if part.to - part.from > 1 {
-        RowOf::Row(part.from + 1)
+        Some(part.from + 1)
     } else {
-        RowOf::NoRow
+        None
     }
 }
 
@@ -32,7 +31,7 @@ fn bit_of(word: u64, bit: u64) -> bool
 }
 
 // Word `k` of a row that was looked for; 0 where there is none, and beyond the row.
-fn mark_word(t: &[u64], w: usize, row: RowOf, k: usize) -> u64
+fn mark_word(t: &[u64], w: usize, row: Option<usize>, k: usize) -> u64
     requires { Stands w t.now row }
     ensures { result ≡ word (row_or w t.now row) k }
 {

@@ -5,7 +5,7 @@ ghost use Rattle.std.specs.Prelude.{◌≡◌, pos};
 ghost use Rattle.std.specs.Int.Signed.{lt_z};
 ghost use Rattle.iff_desk.specs.Changing.{fits_key, fits as fits_both, better as better_of, settled as settled_by, by_time, core as core_of};
 
-use iff_desk::{Bar, Best, Change, Pair, Riding, Source};
+use iff_desk::{Bar, Change, Riding, Source};
 use references::{ANY_COMPANY, ANY_MODE};
 
 // A station's change time that is no reading: the most that two digits hold.
@@ -37,22 +37,22 @@ pub fn fits(keys: Riding, r: Riding) -> bool
 }
 
 // The highest rank wins, then the larger time.
-pub fn better(best: Best, rank: u64, time: u64) -> Best
+pub fn better(best: Option<iff_desk::Best>, rank: u64, time: u64) -> Option<iff_desk::Best>
     ensures { result ≡ better_of best rank time }
 {
     match best {
-        Best::NoBest => Best::BestRow(rank, time),
-        Best::BestRow(highest, longest) => {
-            if highest < rank {
-                return Best::BestRow(rank, time);
+        None => Some(iff_desk::Best { rank, time }),
+        Some(best) => {
+            if best.rank < rank {
+                return Some(iff_desk::Best { rank, time });
             }
-            if rank < highest {
-                return Best::BestRow(highest, longest);
+            if rank < best.rank {
+                return Some(best);
             }
-            if longest < time {
-                return Best::BestRow(rank, time);
+            if best.time < time {
+                return Some(iff_desk::Best { rank, time });
             }
-            Best::BestRow(highest, longest)
+            Some(best)
         }
     }
 }
@@ -83,27 +83,38 @@ fn settled(gap: i32, source: Source, needed: u64, at_top: bool) -> Change
 }
 
 // The needed time by the best row of XCHANGES, and by the station where there is none.
-fn by_time(gap: i32, best: Best, time: u64) -> Change
+fn by_time(gap: i32, best: Option<iff_desk::Best>, time: u64) -> Change
     ensures { result ≡ by_time gap best time }
 {
     match best {
-        Best::BestRow(_, t) => settled(gap, Source::FromXchanges, t, t == NO_EXCEPTION_TIME),
-        Best::NoBest => settled(gap, Source::FromStations, time, time == NO_STATION_TIME),
+        Some(best) => settled(
+            gap,
+            Source::FromXchanges,
+            best.time,
+            best.time == NO_EXCEPTION_TIME,
+        ),
+        None => settled(gap, Source::FromStations, time, time == NO_STATION_TIME),
     }
 }
 
 // The first that applies: the pair in CHANGES, the station's flag, the best row of XCHANGES, the station's change time.
-pub fn core(gap: i32, pair: Pair, flag: u64, best: Best, time: u64) -> Change
+pub fn core(
+    gap: i32,
+    pair: Option<u64>,
+    flag: u64,
+    best: Option<iff_desk::Best>,
+    time: u64,
+) -> Change
     ensures { result ≡ core_of gap pair flag best time }
 {
     match pair {
-        Pair::Possibility(p) => {
+        Some(p) => {
             if p == 0 {
                 return Change::NoBarred(gap, Bar::Pair00);
             }
             settled(gap, Source::FromChanges, 0, false)
         }
-        Pair::NoPair => {
+        None => {
             if flag == 0 {
                 return Change::NoBarred(gap, Bar::Flag0);
             }

@@ -9,12 +9,10 @@ pub fn next_head(t: &[u64], w: usize, from: usize, to: usize) -> usize
     requires { (0 < w) × (from ≤ to) × (to * w ≤ length t.now) }
     ensures { NextHead w t.now from to result }
 {
-    let mut i = from;
-    while i < to {
+    for i in from..to {
         if tables::word_at(t, w, i, iff::words::TAG) == iff::tags::HASH {
             return i;
         }
-        i += 1;
     }
-    i
+    to
 }

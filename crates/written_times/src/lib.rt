@@ -9,14 +9,14 @@ ghost use Rattle.iff_desk.specs.Store.{stop_at};
 ghost use Rattle.iff_desk.specs.Stops.{arrival_of, departure_of, may_alight, may_board};
 ghost use Rattle.store.specs.Found.{row_or, Stands};
 
-use iff::{RowOf, tags, words};
+use iff::{tags, words};
 
 // No time: of a `+` it says that nobody alights, or that nobody boards.
 const NO_TIME: u64 = 9999;
 
 // A STOP'S TIMES AS WRITTEN, 9999 for none: `>` has no arrival, `<` no departure, `.` gives both.
 
-pub fn arrival_of(t: &[u64], row: RowOf) -> u64
+pub fn arrival_of(t: &[u64], row: Option<usize>) -> u64
     requires { Stands (row_width Timetbls) t.now row }
     ensures { result ≡ arrival_of (row_or (row_width Timetbls) t.now row) }
 {
@@ -26,7 +26,7 @@ pub fn arrival_of(t: &[u64], row: RowOf) -> u64
     store::word_of(t, tables::BLOCK_WIDTH, row, words::ARRIVAL)
 }
 
-pub fn departure_of(t: &[u64], row: RowOf) -> u64
+pub fn departure_of(t: &[u64], row: Option<usize>) -> u64
     requires { Stands (row_width Timetbls) t.now row }
     ensures { result ≡ departure_of (row_or (row_width Timetbls) t.now row) }
 {
@@ -41,7 +41,7 @@ pub fn departure_of(t: &[u64], row: RowOf) -> u64
 }
 
 // Somebody may alight at a stop, and board there: 9999 says that nobody does. It is so on every day. The stop is told by its row.
-pub fn may_alight(t: &[u64], row: RowOf) -> bool
+pub fn may_alight(t: &[u64], row: Option<usize>) -> bool
     requires { Stands (row_width Timetbls) t.now row }
     ensures { (R : PerFile (List Row)) (rows : List Row) (number day : ℕ)
         → stop_at rows number ≡ row_or (row_width Timetbls) t.now row
@@ -50,7 +50,7 @@ pub fn may_alight(t: &[u64], row: RowOf) -> bool
     arrival_of(t, row) != NO_TIME
 }
 
-pub fn may_board(t: &[u64], row: RowOf) -> bool
+pub fn may_board(t: &[u64], row: Option<usize>) -> bool
     requires { Stands (row_width Timetbls) t.now row }
     ensures { (R : PerFile (List Row)) (rows : List Row) (number day : ℕ)
         → stop_at rows number ≡ row_or (row_width Timetbls) t.now row

@@ -10,38 +10,38 @@ ghost use Rattle.iff_desk.specs.Stops.{told_if};
 ghost use Rattle.store.specs.Found.{row_or, Stands};
 ghost use Rattle.zone_times.specs.Clocks.{ClockTime, ToldFor};
 
-use iff::{MinutesOf, RowOf, tags, words};
-use iff_desk::{TimeOf, ToldTime};
+use iff::{tags, words};
 
 // A time on a zone's clock and on the reference clock, by the zone rule alone.
-fn clock_time(time: u64, earlier: bool, hours: u64) -> TimeOf
+fn clock_time(time: u64, earlier: bool, hours: u64) -> Option<iff_desk::Moment>
     requires { hours < 100 }
     ensures { ClockTime time earlier hours result }
 {
-    let MinutesOf::Minutes(minutes) = clock::minutes_of(time) else {
-        return TimeOf::NoTime;
-    };
+    let minutes = clock::minutes_of(time)?;
     let local = clock::local_of(minutes);
-    TimeOf::At(local, clock::to_reference(local, earlier, hours))
+    Some(iff_desk::Moment {
+        local,
+        reference: clock::to_reference(local, earlier, hours),
+    })
 }
 
 // A time is told where there is a period; no time asks for none.
-fn told_if(there: bool, time: TimeOf) -> ToldTime
+fn told_if(there: bool, time: Option<iff_desk::Moment>) -> Option<Option<iff_desk::Moment>>
     ensures { result ≡ told_if there time }
 {
     match time {
-        TimeOf::At(local, reference) => {
+        Some(moment) => {
             if there {
-                return ToldTime::Told(TimeOf::At(local, reference));
+                return Some(Some(moment));
             }
-            ToldTime::Untold
+            None
         }
-        TimeOf::NoTime => ToldTime::Told(TimeOf::NoTime),
+        None => Some(None),
     }
 }
 
 // A time as written, by a period that was looked for.
-pub fn told_by(zones: &[u64], period: RowOf, time: u64) -> ToldTime
+pub fn told_by(zones: &[u64], period: Option<usize>, time: u64) -> Option<Option<iff_desk::Moment>>
     requires { Stands (row_width (Groups Timezone)) zones.now period
         × (hours (row_or (row_width (Groups Timezone)) zones.now period) < 100) }
     ensures { ToldFor (row_or (row_width (Groups Timezone)) zones.now period) time result }

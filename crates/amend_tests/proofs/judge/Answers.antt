@@ -1,4 +1,5 @@
 -- `amend_tests::judge` meets its contract: each way out is one of the laws of the tests in turn. Assumes nothing.
+use Rattle.std.proofs.Common.{rules, ◌≡◌, Err}
 use mathlib.Core.Path.{refl, sym, ◌∙◌}
 use native.Mathlib.Omega.{arith}
 use borrow.Author.Tests.{not-true, not-false}
@@ -31,16 +32,17 @@ pub judge_block-requires : goal.judge_block-requires
 judge_block-requires c =
     omega (arith, c.used_rows-used.ensures, c.find_group-part.ensures.in_use, c.find_group-part.ensures.inside.order)
 
-pub returns-in-Fault : goal.returns-in-Fault
-returns-in-Fault c =
+pub returns-in_err-test_sizes : goal.returns-in_err-test_sizes
+returns-in_err-test_sizes c =
     let a = c.args in
-    size_refused a.form a.t.now a.companies.now a.modes.now a.stations.now a.footnotes.now a.service a.block.now
+    let handed : c.from_residual.result ≡ Err c.in_err-test_sizes.field-0.0 = search rules in
+    rw handed (size_refused a.form a.t.now a.companies.now a.modes.now a.stations.now a.footnotes.now a.service a.block.now
     (sym c.is_one_block.ensures ∙ not-false _ c.if-not-is_one_block.false-raw) c.requires _ c.used_rows-used.ensures _ c.find_group-part.ensures c.if-from-to.false
-    _ c.test_sizes.ensures _ _ c.in-Fault.is
+    _ c.test_sizes.ensures _ _ c.in_err-test_sizes.was)
 
-pub returns-in-Fine : goal.returns-in-Fine
-returns-in-Fine c =
+pub returns : goal.returns
+returns c =
     let a = c.args in
     block_judged a.form a.t.now a.companies.now a.modes.now a.stations.now a.footnotes.now a.service a.block.now
     (sym c.is_one_block.ensures ∙ not-false _ c.if-not-is_one_block.false-raw) c.requires _ c.used_rows-used.ensures _ c.find_group-part.ensures c.if-from-to.false
-    _ c.test_sizes.ensures c.in-Fine.is _ c.judge_block.ensures
+    _ c.test_sizes.ensures c.in_ok-test_sizes.was _ c.judge_block.ensures

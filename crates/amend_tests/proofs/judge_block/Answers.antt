@@ -2,14 +2,14 @@
 use Rattle.amend_tests.proofs.JudgeLaws.{block_broken, block_whole}
 use Rattle.amend_tests.proofs.judge_block.Goals as goal
 
-pub returns-in-Broken : goal.returns-in-Broken
-returns-in-Broken c =
+pub returns-in-Err : goal.returns-in-Err
+returns-in-Err c =
     let a = c.args in
     block_broken a.form a.block.now a.t.now a.used a.from a.to a.companies.now a.modes.now a.stations.now
-    a.footnotes.now _ c.count_for_blocks-counts.ensures _ c.check_block.ensures _ _ _ c.in-Broken.is c.ordinal_at-ordinal.ensures
+    a.footnotes.now _ c.count_for_blocks-counts.ensures _ c.check_block.ensures _ _ _ c.in-Err.is c.ordinal_at-ordinal.ensures
 
-pub returns-in-Whole : goal.returns-in-Whole
-returns-in-Whole c =
+pub returns-in-Ok : goal.returns-in-Ok
+returns-in-Ok c =
     let a = c.args in
     block_whole a.form a.block.now a.t.now a.used a.from a.to a.companies.now a.modes.now a.stations.now
-    a.footnotes.now _ c.count_for_blocks-counts.ensures _ c.check_block.ensures _ _ c.in-Whole.is
+    a.footnotes.now _ c.count_for_blocks-counts.ensures _ c.check_block.ensures _ _ c.in-Ok.is

@@ -1,7 +1,5 @@
 -- `place_services` meets its contract: each question that is read is one of those asked, and no slot is added. Assumes nothing.
-use Prim.Native.Nat.{◌-◌}
-use mathlib.Core.Path.{◌≡◌, refl}
-use native.Mathlib.Omega.{arith}
+use mathlib.Core.Path.{refl}
 use lib.ListN.{length}
 use Rattle.iff_desk.specs.Sheet.{question_width}
 use Rattle.tables.proofs.Rows.{row_inside}
@@ -13,9 +11,3 @@ ask_in_question-missing-requires c =
 
 pub loop-q-init : goal.loop-q-init
 loop-q-init c = refl
-
-pub overflow_add-q : goal.overflow_add-q
-overflow_add-q c = omega arith
-
-pub loop-q-smaller : goal.loop-q-smaller
-loop-q-smaller c = omega arith

@@ -1,11 +1,8 @@
 -- `block_legs::are_in_range` meets its contract: what is left to ask is the whole. Assumes nothing.
-use Prim.Native.Nat.{◌-◌}
-use lib.ListN.{length}
+use Rattle.iff.specs.Lines.{lines}
+use Rattle.text_lines.specs.Left.{lines_left}
 use Rattle.block_legs.proofs.LineLaws.{Ranging}
 use Rattle.block_legs.proofs.are_in_range.Given as goal
 
-abbrev pub invariant-loop-at : goal.invariant-loop-at
-invariant-loop-at l = Ranging l.form l.block l.n l.at
-
-abbrev pub decreases-loop-at : goal.decreases-loop-at
-decreases-loop-at l = length l.block - l.at
+abbrev pub invariant-loop-line : goal.invariant-loop-line
+invariant-loop-line l = Ranging l.form (lines l.block) l.n (lines_left l.line-iterator)

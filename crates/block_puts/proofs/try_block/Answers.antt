@@ -11,21 +11,21 @@ pub returns-then-new : goal.returns-then-new
 returns-then-new c =
     let a = c.args in
     tried_broken a.form a.block.now a.t.now a.counts a.companies.now a.modes.now a.stations.now a.footnotes.now
-    a.row a.new c.requires _ _ c.place_block.ensures _ _ c.in-Broken.is c.if-new.true
+    a.row a.new c.requires _ _ c.place_block.ensures _ _ c.in-Err.is c.if-new.true
 
 pub judge_again-requires : goal.judge_again-requires
 judge_again-requires c =
     omega (arith, c.requires.room, c.place_block.auto.t)
 
-pub returns-in-Whole : goal.returns-in-Whole
-returns-in-Whole c =
+pub returns-in-Ok : goal.returns-in-Ok
+returns-in-Ok c =
     let a = c.args in
     tried_whole a.form a.block.now a.t.now a.counts a.companies.now a.modes.now a.stations.now a.footnotes.now
-    a.row a.new c.requires _ _ c.place_block.ensures _ _ c.in-Whole.is
+    a.row a.new c.requires _ _ c.place_block.ensures _ _ c.in-Ok.is
 
 pub returns-else-new : goal.returns-else-new
 returns-else-new c =
     let a = c.args in
     tried_again a.form a.block.now a.t.now a.counts a.companies.now a.modes.now a.stations.now a.footnotes.now
-    a.row a.new c.requires _ _ c.place_block.ensures _ _ c.in-Broken.is c.if-new.false
+    a.row a.new c.requires _ _ c.place_block.ensures _ _ c.in-Err.is c.if-new.false
     c.place_block.auto.t _ _ c.judge_again.ensures

@@ -17,8 +17,8 @@ pub first_repeat-requires : goal.first_repeat-requires
 first_repeat-requires c = c.add_blocks-walk.ensures.room
 
 -- the ordinal of a block is a number
-pub overflow_add-place : goal.overflow_add-place
-overflow_add-place c =
+pub overflow_add-fault : goal.overflow_add-fault
+overflow_add-fault c =
     let a = c.args in
     let n = again_inside a.form a.text.now a.from a.counts a.companies.now a.modes.now a.stations.now a.footnotes.now
     a.t.now _ false c.add_blocks-walk.result c.add_blocks-walk.ensures _ c.first_repeat.ensures _ c.in-First.is in

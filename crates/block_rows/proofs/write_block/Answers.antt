@@ -3,36 +3,20 @@ use native.Mathlib.Omega.{arith}
 use Rattle.block_rows.proofs.WriteLaws.{write_start, line_readable, line_room, write_next, write_end}
 use Rattle.block_rows.proofs.write_block.Goals as goal
 
-pub overflow_add-start : goal.overflow_add-start
-overflow_add-start c =
-    let a = c.args in
-    omega (
-      arith,
-      line_room a.form a.block.now a.t.now c.loop-at.t a.k a.n a.start
-          c.loop-at.at c.loop-at.done c.requires c.loop-at.invariant _ c.line_at-span.ensures,
-    )
+pub loop-done-init : goal.loop-done-init
+loop-done-init c = write_start _ _ _ _ _ _ _ _ (cc) (cc) c.requires
 
 pub put_line-requires : goal.put_line-requires
 put_line-requires c =
-    let a = c.args in
-    let readable = line_readable a.form a.block.now a.t.now c.loop-at.t a.k a.n a.start
-    c.loop-at.at c.loop-at.done c.requires c.loop-at.invariant _ c.line_at-span.ensures in
-    let room = line_room a.form a.block.now a.t.now c.loop-at.t a.k a.n a.start
-    c.loop-at.at c.loop-at.done c.requires c.loop-at.invariant _ c.line_at-span.ensures in
-    (readable, room)
+    let s = c.in-Some.ensures.steps in
+    let room = line_room _ _ _ _ _ _ _ _ _ _ _ c.requires c.loop-done.invariant s.0 in
+    (line_readable _ _ _ _ _ _ _ _ _ _ _ c.requires c.loop-done.invariant s.0, omega (arith, room, s.1))
 
-pub loop-at-preserved : goal.loop-at-preserved
-loop-at-preserved c =
-    let a = c.args in
-    write_next a.form a.block.now a.t.now c.loop-at.t a.k a.n a.start
-    c.loop-at.at c.loop-at.done c.requires c.loop-at.invariant
-    _ c.line_at-span.ensures _ c.put_line.ensures c.put_line.auto.t
+pub loop-done-preserved : goal.loop-done-preserved
+loop-done-preserved c =
+    let s = c.in-Some.ensures.steps in
+    rw s.2
+    (write_next _ _ _ _ _ _ _ _ _ _ _ c.requires c.loop-done.invariant s.0 _ (rw s.1 at c.put_line.ensures) c.put_line.auto.t)
 
 pub returns : goal.returns
-returns c =
-    let a = c.args in
-    write_end a.form a.block.now a.t.now c.loop-at.t a.k a.n a.start
-    c.loop-at.at c.loop-at.done c.requires c.loop-at.invariant c.loop-at-test.false
-
-pub loop-at-init : goal.loop-at-init
-loop-at-init c = write_start _ _ _ _ _ _ c.requires
+returns c = write_end _ _ _ _ _ _ _ _ _ c.requires c.loop-done.invariant c.in-None.ensures.steps.0.0

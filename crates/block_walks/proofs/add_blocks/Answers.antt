@@ -15,17 +15,17 @@ add_block-requires c =
     let l = c.loop-at in
     addable _ _ _ _ _ _ _ _ _ _ l.t l.marks l.at l.row l.done l.run l.sure l.invariant _ c.next_head-found.ensures
 
-pub returns-in-Faulty : goal.returns-in-Faulty
-returns-in-Faulty c =
+pub returns-in-Err : goal.returns-in-Err
+returns-in-Err c =
     let l = c.loop-at in
     adding_faulty _ _ _ _ _ _ _ _ _ _ l.t l.marks l.at l.row l.done l.run l.sure l.invariant _ c.next_head-found.ensures
-    _ _ _ c.add_block.ensures c.add_block.auto.t _ _ c.in-Faulty.is
+    _ _ _ c.add_block.ensures c.add_block.auto.t _ _ c.in-Err.is
 
 pub loop-at-preserved : goal.loop-at-preserved
 loop-at-preserved c =
     let l = c.loop-at in
     adding_next _ _ _ _ _ _ _ _ _ _ l.t l.marks l.at l.row l.done l.run l.sure l.invariant _ c.next_head-found.ensures
-    _ _ _ c.add_block.ensures c.add_block.auto.t _ _ _ c.in-Kept.is _ c.both-sure.ensures
+    _ _ _ c.add_block.ensures c.add_block.auto.t _ _ _ c.in-Ok.is _ c.both-sure.ensures
 
 pub returns : goal.returns
 returns c =
@@ -33,8 +33,8 @@ returns c =
     adding_end _ _ _ _ _ _ _ _ _ _ l.t l.marks l.at l.row l.done l.run l.sure l.invariant c.loop-at-test.false
 
 -- there are as many marks as there were
-pub shape_of-marks-in-Faulty : goal.shape_of-marks-in-Faulty
-shape_of-marks-in-Faulty c =
+pub shape_of-marks-in-Err : goal.shape_of-marks-in-Err
+shape_of-marks-in-Err c =
     let marks_kept : length c.loop-at.marks ≡ length c.args.marks.now = c.loop-at.invariant.holding.marked.wide ∙ sym c.requires.holding.marked.wide in
     c.add_block.auto.marks ∙ marks_kept
 

@@ -12,14 +12,14 @@ pub read_platform-line_at-requires : goal.read_platform-line_at-requires
 read_platform-line_at-requires t c = (c.requires.0, c.requires.1.few)
 
 pub read_platform-read_stops-requires : goal.read_platform-read_stops-requires
-read_platform-read_stops-requires t c = let r = goes_on _ _ _ _ _ _ _ _ _ (starts _ _ _ _ _ _ c.requires.1) _ c.line_at.ensures _ _ c.in-On.is in
-    (omega (arith, c.requires, c.line_at.ensures.past _ _ c.in-On.is), r.here)
+read_platform-read_stops-requires t c = let r = goes_on _ _ _ _ _ _ _ _ _ (starts _ _ _ _ _ _ c.requires.1) _ c.line_at.ensures _ _ c.in-Ok.is in
+    (omega (arith, c.requires, c.line_at.ensures.past _ _ c.in-Ok.is), r.here)
 
-pub read_platform-returns-in-Off : goal.read_platform-returns-in-Off
-read_platform-returns-in-Off t c = held _ _ _ _ _ _ _ _ _ (starts _ _ _ _ _ _ c.requires.1) _ c.line_at.ensures _ c.in-Off.is
+pub read_platform-returns-in-Err : goal.read_platform-returns-in-Err
+read_platform-returns-in-Err t c = held _ _ _ _ _ _ _ _ _ (starts _ _ _ _ _ _ c.requires.1) _ c.line_at.ensures _ c.in-Err.is
 
-pub read_platform-returns-in-On : goal.read_platform-returns-in-On
-read_platform-returns-in-On t c = let r = goes_on _ _ _ _ _ _ _ _ _ (starts _ _ _ _ _ _ c.requires.1) _ c.line_at.ensures _ _ c.in-On.is in
+pub read_platform-returns-in-Ok : goal.read_platform-returns-in-Ok
+read_platform-returns-in-Ok t c = let r = goes_on _ _ _ _ _ _ _ _ _ (starts _ _ _ _ _ _ c.requires.1) _ c.line_at.ensures _ _ c.in-Ok.is in
     c.read_stops.ensures ∙ sym r.left
 
 pub read_stops-loop-at-init : goal.read_stops-loop-at-init
@@ -37,14 +37,14 @@ read_stops-returns-then-block-at-eq63 t c = c.read_platform.ensures ∙ sym c.lo
 pub read_stops-line_at-requires : goal.read_stops-line_at-requires
 read_stops-line_at-requires t c = (c.loop-at-test.true, c.loop-at.invariant.here.few)
 
-pub read_stops-returns-in-Off : goal.read_stops-returns-in-Off
-read_stops-returns-in-Off t c = held _ _ _ _ _ _ _ _ _ c.loop-at.invariant _ c.line_at.ensures _ c.in-Off.is
+pub read_stops-returns-in-Err : goal.read_stops-returns-in-Err
+read_stops-returns-in-Err t c = held _ _ _ _ _ _ _ _ _ c.loop-at.invariant _ c.line_at.ensures _ c.in-Err.is
 
 pub read_stops-loop-at-smaller : goal.read_stops-loop-at-smaller
-read_stops-loop-at-smaller t c = omega (arith, c.line_at.ensures.past _ _ c.in-On.is)
+read_stops-loop-at-smaller t c = omega (arith, c.line_at.ensures.past _ _ c.in-Ok.is)
 
 pub read_stops-loop-at-preserved : goal.read_stops-loop-at-preserved
-read_stops-loop-at-preserved t c = goes_on _ _ _ _ _ _ _ _ _ c.loop-at.invariant _ c.line_at.ensures _ _ c.in-On.is
+read_stops-loop-at-preserved t c = goes_on _ _ _ _ _ _ _ _ _ c.loop-at.invariant _ c.line_at.ensures _ _ c.in-Ok.is
 
 pub read_stops-returns : goal.read_stops-returns
 read_stops-returns t c = ends _ _ _ _ _ _ _ _ _ c.loop-at.invariant c.loop-at-test.false

@@ -1,4 +1,5 @@
 -- `blocks::check_block` meets its contract: each way out is one of the laws of a whole block. Assumes nothing.
+use Rattle.std.proofs.Common.{rules, ◌≡◌, Err}
 use mathlib.Core.Path.{sym, ◌∙◌}
 use native.Mathlib.Omega.{arith}
 use Prim.Native.Nat.{◌<◌}
@@ -12,14 +13,15 @@ returns-then-block-eq0 c = empty_checked _ _ _ _ _ _ _ _ c.if-block-eq0.true
 pub last_tests-requires : goal.last_tests-requires
 last_tests-requires c =
     let some : 0 < length c.args.block.now = omega arith in
-    lines_read _ _ _ _ _ _ _ _ some _ _ (sym c.read_stops.ensures ∙ c.in-Through.is)
+    lines_read _ _ _ _ _ _ _ _ some _ _ (sym c.read_stops.ensures ∙ c.in_ok-st.was)
 
-pub returns-in-Held : goal.returns-in-Held
-returns-in-Held c =
+pub returns-in_err-st : goal.returns-in_err-st
+returns-in_err-st c =
     let some : 0 < length c.args.block.now = omega arith in
-    held_checked _ _ _ _ _ _ _ _ some _ _ (sym c.read_stops.ensures ∙ c.in-Held.is)
+    let handed : c.from_residual.result ≡ Err c.in_err-st.field-0.0 = search rules in
+    rw handed (held_checked _ _ _ _ _ _ _ _ some _ _ (sym c.read_stops.ensures ∙ c.in_err-st.was))
 
-pub returns-in-Through : goal.returns-in-Through
-returns-in-Through c =
+pub returns : goal.returns
+returns c =
     let some : 0 < length c.args.block.now = omega arith in
-    last_checked _ _ _ _ _ _ _ _ some _ _ (sym c.read_stops.ensures ∙ c.in-Through.is) _ c.last_tests.ensures
+    last_checked _ _ _ _ _ _ _ _ some _ _ (sym c.read_stops.ensures ∙ c.in_ok-st.was) _ c.last_tests.ensures

@@ -10,14 +10,14 @@ returns-in_default c = rw (← c.day_of.ensures, c.in_default.is)
 pub returns-in_default-day_of : goal.returns-in_default-day_of
 unfolding day_in
 returns-in_default-day_of c =
-    rw (← c.day_of.ensures, c.in-Day.is, ← c.day_of-2.ensures, c.in_default-day_of.is)
+    rw (← c.day_of.ensures, c.in-Some.is, ← c.day_of-2.ensures, c.in_default-day_of.is)
 
 pub returns-then-day-from : goal.returns-then-day-from
 unfolding day_in
 returns-then-day-from c =
-    rw (← c.day_of.ensures, c.in-Day.is, ← c.day_of-2.ensures, c.in-Day-day_of.is) (omega arith)
+    rw (← c.day_of.ensures, c.in-Some.is, ← c.day_of-2.ensures, c.in-Some-day_of.is) (omega arith)
 
 pub returns : goal.returns
 unfolding day_in
 returns c =
-    rw (← c.day_of.ensures, c.in-Day.is, ← c.day_of-2.ensures, c.in-Day-day_of.is)
+    rw (← c.day_of.ensures, c.in-Some.is, ← c.day_of-2.ensures, c.in-Some-day_of.is)

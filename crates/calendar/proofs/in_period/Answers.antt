@@ -10,16 +10,16 @@ returns-in_default c = rw (← c.day_of.ensures, c.in_default.is)
 pub returns-in_default-day_of : goal.returns-in_default-day_of
 unfolding in_period
 returns-in_default-day_of c =
-    rw (← c.day_of.ensures, c.in-Day.is, ← c.day_of-2.ensures, c.in_default-day_of.is)
+    rw (← c.day_of.ensures, c.in-Some.is, ← c.day_of-2.ensures, c.in_default-day_of.is)
 
 pub returns-in_default-day_of-2 : goal.returns-in_default-day_of-2
 unfolding in_period
 returns-in_default-day_of-2 c =
     rw (
       ← c.day_of.ensures,
-      c.in-Day.is,
+      c.in-Some.is,
       ← c.day_of-2.ensures,
-      c.in-Day-day_of.is,
+      c.in-Some-day_of.is,
       ← c.day_of-3.ensures,
       c.in_default-day_of-2.is,
     )
@@ -29,11 +29,11 @@ unfolding in_period
 returns-then-day-from c =
     rw (
       ← c.day_of.ensures,
-      c.in-Day.is,
+      c.in-Some.is,
       ← c.day_of-2.ensures,
-      c.in-Day-day_of.is,
+      c.in-Some-day_of.is,
       ← c.day_of-3.ensures,
-      c.in-Day-day_of-2.is,
+      c.in-Some-day_of-2.is,
       lt-leb _ _ c.if-day-from.true,
     )
 
@@ -42,10 +42,10 @@ unfolding in_period
 returns c =
     rw (
       ← c.day_of.ensures,
-      c.in-Day.is,
+      c.in-Some.is,
       ← c.day_of-2.ensures,
-      c.in-Day-day_of.is,
+      c.in-Some-day_of.is,
       ← c.day_of-3.ensures,
-      c.in-Day-day_of-2.is,
+      c.in-Some-day_of-2.is,
       le-leb _ _ c.if-day-from.false,
     )

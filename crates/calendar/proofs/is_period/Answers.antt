@@ -9,9 +9,9 @@ returns-in_default c = rw (← c.day_of.ensures, c.in_default.is)
 pub returns-in_default-day_of : goal.returns-in_default-day_of
 unfolding period
 returns-in_default-day_of c =
-    rw (← c.day_of.ensures, c.in-Day.is, ← c.day_of-2.ensures, c.in_default-day_of.is)
+    rw (← c.day_of.ensures, c.in-Some.is, ← c.day_of-2.ensures, c.in_default-day_of.is)
 
 pub returns : goal.returns
 unfolding period
 returns c =
-    rw (← c.day_of.ensures, c.in-Day.is, ← c.day_of-2.ensures, c.in-Day-day_of.is)
+    rw (← c.day_of.ensures, c.in-Some.is, ← c.day_of-2.ensures, c.in-Some-day_of.is)

@@ -12,12 +12,12 @@ returns-in_default c = rw (← c.day_of.ensures, c.in_default.is)
 pub returns-in_default-day_of : goal.returns-in_default-day_of
 unfolding span
 returns-in_default-day_of c =
-    rw (← c.day_of.ensures, c.in-Day.is, ← c.day_of-2.ensures, c.in_default-day_of.is)
+    rw (← c.day_of.ensures, c.in-Some.is, ← c.day_of-2.ensures, c.in_default-day_of.is)
 
 pub returns-then-to-from : goal.returns-then-to-from
 unfolding span
 returns-then-to-from c =
-    rw (← c.day_of.ensures, c.in-Day.is, ← c.day_of-2.ensures, c.in-Day-day_of.is) (omega arith)
+    rw (← c.day_of.ensures, c.in-Some.is, ← c.day_of-2.ensures, c.in-Some-day_of.is) (omega arith)
 
 pub overflow_add-result : goal.overflow_add-result
 overflow_add-result c =
@@ -25,11 +25,11 @@ overflow_add-result c =
       arith,
       day_small
           c.args.last
-          c.in-Day-day_of.to
-          (sym c.day_of-2.ensures ∙ c.in-Day-day_of.is),
+          c.in-Some-day_of.to
+          (sym c.day_of-2.ensures ∙ c.in-Some-day_of.is),
     )
 
 pub returns : goal.returns
 unfolding span
 returns c =
-    rw (← c.day_of.ensures, c.in-Day.is, ← c.day_of-2.ensures, c.in-Day-day_of.is) (omega arith)
+    rw (← c.day_of.ensures, c.in-Some.is, ← c.day_of-2.ensures, c.in-Some-day_of.is) (omega arith)

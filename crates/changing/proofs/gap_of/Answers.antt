@@ -7,14 +7,14 @@ use Rattle.changing.proofs.gap_of.Goals as goal
 
 pub gap-requires : goal.gap-requires
 gap-requires c =
-    (c.requires.0.few _ _ c.in-At.is, (c.requires.1.few _ _ c.in-At-departure.is, (c.requires.2, c.requires.3)))
+    (c.requires.0.few _ _ c.in-Some.is, (c.requires.1.few _ _ c.in-Some-departure.is, (c.requires.2, c.requires.3)))
 
-pub returns-in-At-departure : goal.returns-in-At-departure
-returns-in-At-departure c =
-    to_z-of_z {w = w32} {z = c.gap.result} (search rules) ∙ rw (c.in-At.is, c.in-At-departure.is) c.gap.ensures
+pub returns-in-Some-departure : goal.returns-in-Some-departure
+returns-in-Some-departure c =
+    to_z-of_z {w = w32} {z = c.gap.result} (search rules) ∙ rw (c.in-Some.is, c.in-Some-departure.is) c.gap.ensures
 
-pub returns-in-NoTime-departure : goal.returns-in-NoTime-departure
-returns-in-NoTime-departure c = rw (c.in-At.is, c.in-NoTime-departure.is)
+pub returns-in-None-departure : goal.returns-in-None-departure
+returns-in-None-departure c = rw (c.in-Some.is, c.in-None-departure.is)
 
-pub returns-in-NoTime : goal.returns-in-NoTime
-returns-in-NoTime c = rw c.in-NoTime.is
+pub returns-in-None : goal.returns-in-None
+returns-in-None c = rw c.in-None.is

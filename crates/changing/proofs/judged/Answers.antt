@@ -1,6 +1,8 @@
 -- `judged` meets its contract: 15 for the arrival, then for the departure, then the verdict. Assumes nothing.
-use mathlib.Core.Path.{refl, ◌∙◌}
+use Rattle.std.specs.Prelude.{Ok}
+use mathlib.Core.Path.{ap, refl, ◌∙◌}
 use Rattle.needed_times.specs.Needed.{rows_found}
+use Rattle.iff_desk.specs.declared.Change.{Change}
 use Rattle.changing.specs.Agree.{ToldOf}
 use Rattle.changing.specs.Sides.{stop_found, arrival_from, departure_to}
 use Rattle.changing.proofs.ZoneLaws.{told_on_lem}
@@ -40,7 +42,7 @@ returns-in_default-departure_on c R z n =
     c.number_on-board_number.ensures.0 _ c.departure_on.ensures in
     let a = c.args in
     no_second R (rows_found a.timetbls.now a.a) (rows_found a.timetbls.now a.b) a.a.station a.from a.to _ _ _ _
-    (arrives.is R z) (departs.is R z) _ c.in-Told.is c.in_default-departure_on.is
+    (arrives.is R z) (departs.is R z) _ c.in-Some.is c.in_default-departure_on.is
 
 pub weighed-requires : goal.weighed-requires
 weighed-requires c =
@@ -53,8 +55,8 @@ weighed-requires c =
     c.departure_on.result = told_on_lem c.args.delivery.now c.args.zones.now c.args.stations.now c.args.b.station c.args.to.day _ _
     c.number_on-board_number.ensures.0 _ c.departure_on.ensures in
     let q = c.requires in (
-      arrives.few _ c.in-Told.is,
-      departs.few _ c.in-Told-departure_on.is,
+      arrives.few _ c.in-Some.is,
+      departs.few _ c.in-Some-departure_on.is,
       q.4,
       q.5,
       q.0.stations,
@@ -78,6 +80,6 @@ returns c R z n =
     c.departure_on.result = told_on_lem c.args.delivery.now c.args.zones.now c.args.stations.now c.args.b.station c.args.to.day _ _
     c.number_on-board_number.ensures.0 _ c.departure_on.ensures in
     let a = c.args in
-    c.weighed.ensures R z.stations n.changes n.xfootnote n.xchanges
+    ap (λ (v : Change). Ok v) (c.weighed.ensures R z.stations n.changes n.xfootnote n.xchanges)
     ∙ both_told R (rows_found a.timetbls.now a.a) (rows_found a.timetbls.now a.b) a.a.station a.from a.to _ _ _ _
-    (arrives.is R z) (departs.is R z) _ _ c.in-Told.is c.in-Told-departure_on.is
+    (arrives.is R z) (departs.is R z) _ _ c.in-Some.is c.in-Some-departure_on.is

@@ -10,21 +10,21 @@ judged-requires c =
     let p = c.requires in
     (p.0.zones, p.0.needs, c.find_side-a.ensures, c.find_side-b.ensures, p.1, p.2)
 
-pub returns-in-Stops : goal.returns-in-Stops
-returns-in-Stops c R w =
+pub returns-in-Some : goal.returns-in-Some
+returns-in-Some c R w =
     let t = c.args.timetbls.now in
     let a = c.find_side-a.result in
     let b = c.find_side-b.result in
     later_stops R (rows_found t a) (rows_found t b) (stop_found t a) (stop_found t b) a.station b.station c.args.from c.args.to
-    c.in-Stops.early (sym (c.later_hurdle.ensures R w.footnote) ∙ ap hurdle_of c.in-Stops.is)
+    c.in-Some.early (sym (c.later_hurdle.ensures R w.footnote) ∙ ap hurdle_of c.in-Some.is)
     ∙ sides_found R t c.args.from c.args.to a b w.timetbls c.find_side-a.ensures c.find_side-b.ensures
 
-pub returns-in-Clear : goal.returns-in-Clear
-returns-in-Clear c R w =
+pub returns-in-None : goal.returns-in-None
+returns-in-None c R w =
     let t = c.args.timetbls.now in
     let a = c.find_side-a.result in
     let b = c.find_side-b.result in
     c.judged.ensures R w.zones w.needs
     ∙ later_clear R (rows_found t a) (rows_found t b) (stop_found t a) (stop_found t b) a.station b.station c.args.from
-    c.args.to (sym (c.later_hurdle.ensures R w.footnote) ∙ ap hurdle_of c.in-Clear.is)
+    c.args.to (sym (c.later_hurdle.ensures R w.footnote) ∙ ap hurdle_of c.in-None.is)
     ∙ sides_found R t c.args.from c.args.to a b w.timetbls c.find_side-a.ensures c.find_side-b.ensures

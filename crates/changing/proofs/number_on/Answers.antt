@@ -7,20 +7,20 @@ use Rattle.changing.proofs.number_on.Goals as goal
 
 pub overflow_add-result : goal.overflow_add-result
 overflow_add-result c =
-    omega (arith, day_small c.first_word.result c.in-Day.first (sym c.day_of.ensures ∙ c.in-Day.is))
+    omega (arith, day_small c.first_word.result c.in-Some.first (sym c.day_of.ensures ∙ c.in-Some.is))
 
-pub returns-in-Day : goal.returns-in-Day
-returns-in-Day c =
+pub returns-in-Some : goal.returns-in-Some
+returns-in-Some c =
     let a = c.args in
-    let k = sym c.day_of.ensures ∙ c.in-Day.is in (
-      (λ R e. number_is R a.delivery.now e c.first_word.result c.first_word.ensures a.day c.in-Day.first k),
+    let k = sym c.day_of.ensures ∙ c.in-Some.is in (
+      (λ R e. number_is R a.delivery.now e c.first_word.result c.first_word.ensures a.day c.in-Some.first k),
       omega (arith, day_small _ _ k, c.requires.1),
     )
 
-pub returns-in-NotADay : goal.returns-in-NotADay
-returns-in-NotADay c =
+pub returns-in-None : goal.returns-in-None
+returns-in-None c =
     let a = c.args in (
       (λ R e. no_number R a.delivery.now e c.first_word.result c.first_word.ensures a.day
-          (sym c.day_of.ensures ∙ c.in-NotADay.is)),
+          (sym c.day_of.ensures ∙ c.in-None.is)),
       omega (arith, c.requires.1),
     )

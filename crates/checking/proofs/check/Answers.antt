@@ -2,8 +2,8 @@
 use Rattle.checking.proofs.CheckLaws.{larger_is, answer_is}
 use Rattle.checking.proofs.check.Goals as goal
 
-pub returns-in-Fault : goal.returns-in-Fault
-returns-in-Fault c = larger_is _ _ _ c.lengths-sizes.ensures c.in-Fault.is
+pub returns-in-Err : goal.returns-in-Err
+returns-in-Err c = larger_is _ _ _ c.lengths-sizes.ensures c.in-Err.is
 
-pub returns-in-Fine : goal.returns-in-Fine
-returns-in-Fine c = answer_is c.lengths-sizes.ensures c.in-Fine.is c.load_small.ensures
+pub returns-in-Ok : goal.returns-in-Ok
+returns-in-Ok c = answer_is c.lengths-sizes.ensures c.in-Ok.is c.load_small.ensures

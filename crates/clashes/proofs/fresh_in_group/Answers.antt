@@ -2,17 +2,8 @@
 use mathlib.Core.Path.{ap, sym, ◌∙◌}
 use mathlib.Core.Bool.{not}
 use Rattle.iff_rules.specs.Unique.{clash}
-use Rattle.tables.proofs.Rows.{row_inside}
 use Rattle.keys.proofs.Blocks.{none_left, one_here, one_on}
 use Rattle.clashes.proofs.fresh_in_group.Goals as goal
-
-pub loop-i-init : goal.loop-i-init
-loop-i-init c = (c.row_width-w.ensures.is, rw c.row_width-w.ensures.is)
-
-pub clashes_at-requires : goal.clashes_at-requires
-clashes_at-requires c =
-    let e = c.loop-i.invariant.0 in
-    (e, row_inside _ _ _ _ c.loop-i-test.true (rw e c.requires.0), c.requires.1 ∙ sym e)
 
 pub returns-then-clashes_at : goal.returns-then-clashes_at
 returns-then-clashes_at c =

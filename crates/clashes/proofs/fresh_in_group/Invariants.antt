@@ -1,5 +1,4 @@
 -- `fresh_in_group` meets its contract: what is left clashes exactly when the whole does. Assumes nothing.
-use Prim.Native.Nat.{◌-◌}
 use mathlib.Core.Path.{◌≡◌}
 use Rattle.iff.specs.Lists.{any}
 use Rattle.iff.specs.Tables.{row_width}
@@ -12,6 +11,3 @@ abbrev pub invariant-loop-i : goal.invariant-loop-i
 invariant-loop-i l =
     (l.w ≡ row_width (Groups l.file))
     × (any (clash l.file l.row) (rows_between (row_width (Groups l.file)) l.t l.from l.to) ≡ any (clash l.file l.row) (rows_between l.w l.t l.i l.to))
-
-abbrev pub decreases-loop-i : goal.decreases-loop-i
-decreases-loop-i l = l.to - l.i

@@ -2,9 +2,9 @@
 use Rattle.clearing.proofs.SettleLaws.{all_stay, all_go}
 use Rattle.clearing.proofs.settle.Goals as goal
 
-pub returns-in-Fine : goal.returns-in-Fine
-returns-in-Fine c = all_stay _ _ _ _ _ _ _ _ _ _ _ _ c.in-Fine.is
+pub returns-in-Ok : goal.returns-in-Ok
+returns-in-Ok c = all_stay _ _ _ _ _ _ _ _ _ _ _ _ c.in-Ok.is
 
-pub returns-in-Fault : goal.returns-in-Fault
-returns-in-Fault c =
-    all_go _ _ _ _ _ _ _ _ _ _ _ _ _ _ _ _ _ _ _ _ _ _ _ _ _ c.in-Fault.is c.clear_all.ensures
+pub returns-in-Err : goal.returns-in-Err
+returns-in-Err c =
+    all_go _ _ _ _ _ _ _ _ _ _ _ _ _ _ _ _ _ _ _ _ _ _ _ _ _ c.in-Err.is c.clear_all.ensures

@@ -1,20 +1,24 @@
 -- What is left to test is the whole. Assumes nothing.
 use mathlib.Core.Path.{sym, ◌∙◌}
-use borrow.Author.Tests.{not-true, not-false}
-use Rattle.day_marks.proofs.MarkLaws.{read_begin, read_fails, read_on, read_end}
+use native.Mathlib.Omega.{arith}
+use Rattle.day_marks.proofs.MarkLaws.{words_behind, read_begin, read_fails, read_on, read_end}
 use Rattle.day_marks.proofs.are_marks_right.Goals as goal
 
 pub returns-then-not-fits_days : goal.returns-then-not-fits_days
 returns-then-not-fits_days c =
-    read_fails _ _ _ _ c.loop-i.invariant c.loop-i-test.true (sym c.fits_days.ensures ∙ not-true _ c.if-not-fits_days.true-raw)
+    let n = words_behind c.args.row.now c.requires in
+    read_fails _ _ _ _ c.loop-word.invariant (omega arith) (sym c.fits_days.ensures ∙ c.if-not-fits_days.true)
 
-pub loop-i-preserved : goal.loop-i-preserved
-loop-i-preserved c =
-    read_on _ _ _ _ c.loop-i.invariant c.loop-i-test.true (sym c.fits_days.ensures ∙ not-false _ c.if-not-fits_days.false-raw) _
+pub loop-word-preserved : goal.loop-word-preserved
+loop-word-preserved c =
+    let n = words_behind c.args.row.now c.requires in
+    read_on _ _ _ _ c.loop-word.invariant (omega arith) (sym c.fits_days.ensures ∙ c.if-not-fits_days.false) _
     c.days_behind-left.ensures
 
-pub loop-i-init : goal.loop-i-init
-loop-i-init c = read_begin _ _
+pub loop-word-init : goal.loop-word-init
+loop-word-init c = read_begin _ _
 
 pub returns : goal.returns
-returns c = read_end _ _ _ _ c.loop-i.invariant c.loop-i-test.false
+returns c =
+    let n = words_behind c.args.row.now c.requires in
+    read_end _ _ _ _ c.loop-word.invariant (omega arith)

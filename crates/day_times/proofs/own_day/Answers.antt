@@ -6,12 +6,12 @@ use Rattle.day_times.proofs.own_day.Goals as goal
 
 pub days_in-requires : goal.days_in-requires
 days_in-requires c =
-    minutes_small _ _ (sym c.minutes_of.ensures ∙ c.in-Minutes.is)
+    minutes_small _ _ (sym c.minutes_of.ensures ∙ c.in-Some.is)
 
-pub returns-in-Minutes : goal.returns-in-Minutes
-returns-in-Minutes c =
-    rw (← c.minutes_of.ensures, c.in-Minutes.is, c.days_in.ensures.0)
+pub returns-in-Some : goal.returns-in-Some
+returns-in-Some c =
+    rw (← c.minutes_of.ensures, c.in-Some.is, c.days_in.ensures.0)
 
-pub returns-in-NoMinutes : goal.returns-in-NoMinutes
-returns-in-NoMinutes c =
-    rw (← c.minutes_of.ensures, c.in-NoMinutes.is, add-zero c.args.number)
+pub returns-in-None : goal.returns-in-None
+returns-in-None c =
+    rw (← c.minutes_of.ensures, c.in-None.is, add-zero c.args.number)

@@ -1,4 +1,5 @@
 -- `calyxcabin_lines_now` meets its contract: it is the block, or `service_lines::lines_part`'s, in numbers. Assumes nothing.
+use Rattle.std.specs.Prelude.{Ok}
 use Prim.Native.Nat.{ℕ}
 use mathlib.Core.Path.{◌≡◌, sym, ◌∙◌, ap, subst}
 use mathlib.Core.List.{List}
@@ -6,12 +7,11 @@ use mathlib.Core.Bool.{Bool, true, false, cond}
 use native.Mathlib.Omega.{arith}
 use lib.ListN.{length}
 use Rattle.iff.specs.Lines.{lines}
-use Rattle.iff.specs.declared.Test.TheVariants.{Passes}
-use Rattle.iff_desk.specs.Parts.{is_one_block, lines_now_test}
+use Rattle.iff_desk.specs.Parts.{is_one_block}
 use Rattle.question_numbers.specs.Numbers.{lines_words}
 use Rattle.parts.specs.Bounds.{Inside}
 use Rattle.parts.specs.declared.Part.{Part}
-use Rattle.service_lines.specs.Bounds.{lines_part, text_now, part_now}
+use Rattle.service_lines.specs.Bounds.{lines_part, part_now}
 use Rattle.service_lines.proofs.LinesLaws.{now_holds, now_tested}
 use Rattle.exports.specs.Exported.{LinesInNumbers}
 use Rattle.exports.proofs.calyxcabin_lines_now.Goals as goal
@@ -21,7 +21,7 @@ abbrev words_of : Bool → Part → List ℕ
 words_of b p = lines_words p.test b p.from p.to
 
 abbrev whole : List ℕ → Part
-whole block = record { test = Passes; from = 0; to = length block }
+whole block = record { test = Ok tt; from = 0; to = length block }
 
 module _ (t block : List ℕ) (s : ℕ) (words : List ℕ) where
   told : (b : Bool) → is_one_block s (lines block) ≡ b → words ≡ words_of b (cond b (whole block) (lines_part t s))

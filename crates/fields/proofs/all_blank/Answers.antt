@@ -1,20 +1,15 @@
--- `fields::all_blank` meets its contract: an instance of the laws of one test of all bytes. Assumes nothing.
-use mathlib.Core.Path.{refl, sym}
+-- `fields::all_blank` meets its contract: std's test of all bytes is the definition's. Assumes nothing.
+use mathlib.Core.Path.{◌∙◌}
 use borrow.Author.Rules.{rules}
-use borrow.Author.Tests.{eq-eqb, ne_eqb}
-use Rattle.text.proofs.PictureLaws.{breaks, holds_on, held_all}
+use borrow.Author.Tests.{tests}
+use lib.Dec.{eqb}
+use Rattle.std.proofs.lemmas.Iterator.{YieldsList-from_slice}
+use Rattle.std.proofs.lemmas.Iterator.Search.{all_from_yields_List}
+use Rattle.iff.specs.Bytes.{blank}
+use Rattle.text.proofs.PictureLaws.{all_is}
 use Rattle.fields.proofs.all_blank.Goals as goal
 
-pub returns-then-field-blanks-ne32 : goal.returns-then-field-blanks-ne32
-returns-then-field-blanks-ne32 c =
-    breaks _ _ _ c.loop-blanks-test.true (ne_eqb _ _ (λ e. c.if-field-blanks-ne32.true (sym e))) c.loop-blanks.invariant
-
-pub loop-blanks-preserved : goal.loop-blanks-preserved
-loop-blanks-preserved c =
-    holds_on _ _ _ c.loop-blanks-test.true (eq-eqb _ _ (sym c.if-field-blanks-ne32.false)) c.loop-blanks.invariant
-
 pub returns : goal.returns
-returns c = held_all _ _ _ c.loop-blanks-test.false c.loop-blanks.invariant
-
-pub loop-blanks-init : goal.loop-blanks-init
-loop-blanks-init c = (search rules, refl)
+returns c =
+    let s = c.args.field.now in
+    all_from_yields_List (eqb blank) _ _ _ c.all.ensures.ran (YieldsList-from_slice s cc) (λ x b q k. search (rules, tests)) ∙ all_is (eqb blank) s

@@ -1,4 +1,5 @@
 -- `file_rows::add_row` meets its contract. Assumes nothing.
+use Rattle.std.proofs.Common.{rules, ◌≡◌, Err}
 use Rattle.iff.specs.Lines.{Line}
 use Rattle.records.specs.Layouts.{line_of}
 use Rattle.file_rows.proofs.PlainLaws.{room_for, line_refused, row_plain, line_added}
@@ -11,7 +12,7 @@ read_line-requires c =
 pub store_row-requires : goal.store_row-requires
 store_row-requires c =
     let line : Line = line_of c.args.line.now c.args.ended in
-    let told = c.in-Passes.is in (
+    let told = c.in_ok-read_line.was in (
       row_plain c.args.file c.args.form c.args.count c.args.before.now c.args.counts c.args.countries.now
           c.args.zones.now line
           c.args.t.now _ c.row_record-kind.ensures _ c.read_line.ensures.test told c.args.row.now _ c.requires.0
@@ -19,27 +20,19 @@ store_row-requires c =
       c.requires.1,
     )
 
-pub returns-in-Fails : goal.returns-in-Fails
-returns-in-Fails c =
+pub returns-in_err-read_line : goal.returns-in_err-read_line
+returns-in_err-read_line c =
     let line : Line = line_of c.args.line.now c.args.ended in
-    line_refused c.args.file c.args.form c.args.count c.args.before.now c.args.counts c.args.countries.now
+    let handed : c.from_residual.result ≡ Err c.in_err-read_line.field-0.0 = search rules in
+    rw handed (line_refused c.args.file c.args.form c.args.count c.args.before.now c.args.counts c.args.countries.now
     c.args.zones.now line
-    c.args.t.now _ c.row_record-kind.ensures _ _ c.read_line.ensures.test c.in-Fails.is
+    c.args.t.now _ c.row_record-kind.ensures _ _ c.read_line.ensures.test c.in_err-read_line.was)
 
-pub returns-in-Passes : goal.returns-in-Passes
-returns-in-Passes c =
+pub returns : goal.returns
+returns c =
     let line : Line = line_of c.args.line.now c.args.ended in
-    let told = c.in-Passes.is in
+    let told = c.in_ok-read_line.was in
     line_added c.args.file c.args.form c.args.count c.args.before.now c.args.counts c.args.countries.now
     c.args.zones.now line
     c.args.t.now _ c.row_record-kind.ensures _ c.read_line.ensures.test told c.args.row.now _ c.requires.0
     (c.read_line.ensures.row told) _ _ c.store_row.ensures
-
-pub shape_of-row-in-Fails : goal.shape_of-row-in-Fails
-shape_of-row-in-Fails c = c.read_line.ensures.kept
-
-pub shape_of-row-in-Passes : goal.shape_of-row-in-Passes
-shape_of-row-in-Passes c = c.read_line.ensures.kept
-
-pub shape_of-t : goal.shape_of-t
-shape_of-t c = c.store_row.ensures.kept

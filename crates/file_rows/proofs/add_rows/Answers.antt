@@ -30,11 +30,11 @@ line_number-requires c =
     let numbered : c.loop-at.count + 2 < 2 ^ 64 = omega (arith, c.loop-at.invariant.0.cut.few, c.loop-at.invariant.0.inside, c.loop-at-test.true, c.well_formed) in
     let n = numbered in omega (arith, n)
 
-pub returns-in-Refused : goal.returns-in-Refused
-returns-in-Refused c =
+pub returns-in-Err : goal.returns-in-Err
+returns-in-Err c =
     stops c.args.file c.args.form c.args.text.now c.args.from c.args.counts c.args.countries.now c.args.zones.now
     c.args.t.now c.requires.0 _ _ _ _ _ c.loop-at.invariant.0 _ c.line_at-s.ensures _ _ c.add_line.ensures _ _
-    c.in-Refused.is (c.line_number.ensures ∙ omega arith)
+    c.in-Err.is (c.line_number.ensures ∙ omega arith)
 
 -- the part that is marked is the line
 pub slice_bounds-mark_line-start : goal.slice_bounds-mark_line-start
@@ -46,15 +46,15 @@ slice_bounds-mark_line-end c = omega (arith, c.line_at-s.ensures)
 pub slice_bounds-mark_line-count : goal.slice_bounds-mark_line-count
 slice_bounds-mark_line-count c = omega (arith, c.line_at-s.ensures)
 
-pub overflow_add-count-in-Key : goal.overflow_add-count-in-Key
-overflow_add-count-in-Key c =
+pub overflow_add-count-in-Ok : goal.overflow_add-count-in-Ok
+overflow_add-count-in-Ok c =
     omega (arith, c.loop-at.invariant.0.cut.few, c.loop-at.invariant.0.inside, c.loop-at-test.true, c.well_formed)
 
 pub loop-at-preserved : goal.loop-at-preserved
 loop-at-preserved c = (
   goes_on c.args.file c.args.form c.args.text.now c.args.from c.args.counts c.args.countries.now c.args.zones.now
       c.args.t.now c.requires.0 _ _ _ _ _ c.loop-at.invariant.0 _ c.line_at-s.ensures _ _ c.add_line.ensures _
-      c.in-Key.is _ _ c.next_run-run.ensures c.mark_line.ensures,
+      c.in-Ok.is _ _ c.next_run-run.ensures c.mark_line.ensures,
   c.mark_line.auto.marks ∙ c.loop-at.invariant.1,
 )
 
@@ -81,11 +81,11 @@ slice_bounds-add_line-start-in-loop-at c = omega (arith, c.line_at-s.ensures)
 pub slice_bounds-add_line-end-in-loop-at : goal.slice_bounds-add_line-end-in-loop-at
 slice_bounds-add_line-end-in-loop-at c = omega (arith, c.line_at-s.ensures)
 
-pub shape_of-t-in-Refused : goal.shape_of-t-in-Refused
-shape_of-t-in-Refused c = (returns-in-Refused c).kept
+pub shape_of-t-in-Err : goal.shape_of-t-in-Err
+shape_of-t-in-Err c = (returns-in-Err c).kept
 
-pub shape_of-marks-in-Refused : goal.shape_of-marks-in-Refused
-shape_of-marks-in-Refused c = c.loop-at.invariant.1
+pub shape_of-marks-in-Err : goal.shape_of-marks-in-Err
+shape_of-marks-in-Err c = c.loop-at.invariant.1
 
 pub loop-at-smaller : goal.loop-at-smaller
 loop-at-smaller c = omega (arith, c.line_at-s.ensures)

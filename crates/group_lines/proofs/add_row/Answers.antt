@@ -33,11 +33,11 @@ pub open_after-after-requires : goal.open_after-after-requires
 open_after-after-requires c =
     omega (arith, c.requires.0.part, c.requires.0.few, c.well_formed)
 
-pub returns-in-Fails : goal.returns-in-Fails
-returns-in-Fails c =
-    put_not _ _ _ _ _ _ _ _ c.requires.0 _ _ _ c.test_row.ensures _ c.in-Fails.is
+pub returns-in-Err : goal.returns-in-Err
+returns-in-Err c =
+    put_not _ _ _ _ _ _ _ _ c.requires.0 _ _ _ c.test_row.ensures _ c.in-Err.is
 
-pub returns-in-Passes : goal.returns-in-Passes
-returns-in-Passes c =
-    put_there _ _ _ _ _ _ _ _ c.requires.0 _ _ _ c.test_row.ensures c.requires.1 c.in-Passes.is _
+pub returns-in-Ok : goal.returns-in-Ok
+returns-in-Ok c =
+    put_there _ _ _ _ _ _ _ _ c.requires.0 _ _ _ c.test_row.ensures c.requires.1 c.in-Ok.is _
     c.put_row.ensures c.put_row.auto.t _ c.remember.ensures _ c.open_after-after.ensures

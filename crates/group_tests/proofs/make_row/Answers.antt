@@ -9,7 +9,7 @@ use Rattle.iff.specs.declared.File.TheVariants.{Groups}
 use Rattle.iff_rules.specs.Order.{group_tag}
 use Rattle.records.proofs.FileLaws.{group_room}
 use Rattle.group_tests.specs.Tests.{place_test}
-use Rattle.group_tests.proofs.LineLaws.{place_fails, place_passes}
+use Rattle.group_tests.proofs.LineLaws.{place_passes}
 use Rattle.group_tests.proofs.make_row.Goals as goal
 
 pub read_line-requires : goal.read_line-requires
@@ -18,18 +18,12 @@ read_line-requires c =
     rw c.group_record-kind.ensures (group_room c.args.form c.args.file c.first_byte-letter.result) in
     omega (arith, c.requires)
 
-pub returns-in-Fails : goal.returns-in-Fails
-returns-in-Fails c =
-    place_fails c.args.file c.args.form c.args.stand _ c.args.row.now c.args.row.now c.requires _ _
-    (c.place_test.ensures ∙ ap (place_test c.args.file c.args.stand) c.first_byte-letter.ensures)
-    c.in-Fails.is
-
-pub returns-in-Passes : goal.returns-in-Passes
-returns-in-Passes c =
+pub returns : goal.returns
+returns c =
     let x = c.first_byte-letter.ensures in
     place_passes c.args.file c.args.form c.args.stand _ _ _ c.requires _ _ _ _
     (c.place_test.ensures ∙ ap (place_test c.args.file c.args.stand) x)
-    c.in-Passes.is
+    c.in_ok-place_test.was
     (c.group_record-kind.ensures ∙ ap (group_record c.args.file) x)
     (c.group_tag-tag.ensures ∙ ap (group_tag c.args.file) x)
     c.read_line.ensures

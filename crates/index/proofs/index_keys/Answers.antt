@@ -1,5 +1,4 @@
 -- `index_keys` meets its contract: before each row, what is left of the keys decides what is told of them all. Assumes nothing.
-use native.Mathlib.Omega.{arith}
 use Rattle.index.proofs.KeyLaws.{none_indexed, at_row, one_indexed, again_told, all_told}
 use Rattle.index.proofs.index_keys.Goals as goal
 
@@ -24,15 +23,9 @@ pub loop-i-preserved : goal.loop-i-preserved
 loop-i-preserved c =
     let a = c.args in
     one_indexed a.file a.used a.t.now a.places.now c.loop-i.run c.loop-i.i c.loop-i.places c.loop-i.invariant
-    c.loop-i-test.true _ _ c.index_row.ensures _ c.in-Goes.is
+    c.loop-i-test.true _ _ c.index_row.ensures _ c.in-Some.is
 
 pub returns : goal.returns
 returns c =
     let a = c.args in
     all_told a.file a.used a.t.now a.places.now c.loop-i.run c.loop-i.i c.loop-i.places c.loop-i.invariant c.loop-i-test.false
-
-pub overflow_add-i : goal.overflow_add-i
-overflow_add-i c = omega arith
-
-pub loop-i-smaller : goal.loop-i-smaller
-loop-i-smaller c = omega arith

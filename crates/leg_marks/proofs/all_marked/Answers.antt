@@ -1,19 +1,18 @@
--- `leg_marks::all_marked` meets its contract: from the last leg down, what is left to ask is the whole. Assumes nothing.
-use mathlib.Core.Path.{refl}
+-- `leg_marks::all_marked` meets its contract: std's test of the marks of legs 1 to `legs` is the definition's. Assumes nothing.
+use mathlib.Core.Path.{◌≡◌, ◌∙◌}
+use Prim.Native.Nat.{◌+◌, ◌-◌}
+use native.Mathlib.Omega.{arith}
 use borrow.Author.Rules.{rules}
-use Rattle.leg_marks.proofs.MarkLaws.{down_not, down_next, down_all}
+use borrow.Author.Tests.{tests}
+use lib.Dec.{eqb}
+use Rattle.std.proofs.lemmas.Iterator.{YieldsList-from_slice}
+use Rattle.std.proofs.lemmas.Iterator.Search.{all_from_yields_List}
+use Rattle.leg_marks.proofs.MarkLaws.{once_all}
 use Rattle.leg_marks.proofs.all_marked.Goals as goal
 
-pub returns-then-marks-leg-ne1 : goal.returns-then-marks-leg-ne1
-returns-then-marks-leg-ne1 c =
-    down_not _ _ _ c.loop-leg-test.true c.if-marks-leg-ne1.true c.loop-leg.invariant
-
-pub loop-leg-preserved : goal.loop-leg-preserved
-loop-leg-preserved c =
-    down_next _ _ _ c.loop-leg-test.true c.if-marks-leg-ne1.false c.loop-leg.invariant
-
 pub returns : goal.returns
-returns c = down_all _ _ _ c.loop-leg-test.false c.loop-leg.invariant
-
-pub loop-leg-init : goal.loop-leg-init
-loop-leg-init c = (search rules, refl)
+returns c =
+    let legs = c.args.legs in
+    let n : legs + 1 - 1 ≡ legs = omega arith in
+    all_from_yields_List (λ k. eqb k 1) c.all.new.self _ _ c.all.ensures.ran (YieldsList-from_slice _ c.iter.ensures.rest) (λ x b q k. search (rules, tests))
+    ∙ rw n (once_all legs c.args.marks.now c.requires)

@@ -6,20 +6,8 @@ use Rattle.line_counts.proofs.ends_in.Goals as goal
 pub loop-i-init : goal.loop-i-init
 loop-i-init c = runs_start _ _ _ c.requires.0
 
-pub overflow_add-j : goal.overflow_add-j
-overflow_add-j c = omega (arith, c.loop-i-test.true, c.requires.1, c.well_formed)
-
-pub bounds-text-i : goal.bounds-text-i
-bounds-text-i c = omega (arith, c.loop-i-test.true, c.requires.1)
-
-pub bounds-text-j : goal.bounds-text-j
-bounds-text-j c = omega (arith, c.loop-i-test.true, c.requires.1)
-
 pub overflow_add-n : goal.overflow_add-n
 overflow_add-n c = omega (arith, c.loop-i.invariant, c.loop-i-test.true, c.end_of-n.ensures.1, c.requires.2)
-
-pub loop-i-smaller : goal.loop-i-smaller
-loop-i-smaller c = omega (arith, c.loop-i-test.true)
 
 pub loop-i-preserved : goal.loop-i-preserved
 loop-i-preserved c = runs_on_lem _ _ _ _ _ _ c.loop-i.invariant c.loop-i-test.true c.requires.1 c.end_of-n.ensures.0 c.end_of-n.ensures.1

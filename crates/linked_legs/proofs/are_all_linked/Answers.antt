@@ -2,37 +2,11 @@
 use mathlib.Core.Path.{sym, ◌∙◌}
 use borrow.Author.Tests.{not-true, not-false, eq-eqb, ne_eqb}
 use Rattle.iff.specs.Bytes.{percent, dash, ampersand}
-use Rattle.iff.specs.Tables.{row_width}
-use Rattle.iff.specs.declared.File.TheVariants.{Timetbls}
 use Rattle.iff_rules.specs.Legs.{reach_of, in_range}
-use Rattle.tables.proofs.Rows.{row_inside}
 use Rattle.linked_legs.proofs.RowLaws.{all_none, all_not, all_on}
-use Rattle.linked_legs.proofs.LinkingLaws.{linked_none, linked_not, linked_on, linking_first}
+use Rattle.linked_legs.proofs.LinkingLaws.{linked_none, linked_not, linked_on}
 use Rattle.linked_legs.proofs.LinkingLaws.{range_fails, numbers_fail, validities_fail, modes_fail, all_hold}
 use Rattle.linked_legs.proofs.are_all_linked.Goals as goal
-
-pub loop-i-init : goal.loop-i-init
-loop-i-init c = let a = c.args in linking_first a.t.now a.from a.to a.n
-
-pub in_range_at-ranged-requires : goal.in_range_at-ranged-requires
-in_range_at-ranged-requires c =
-    let a = c.args in
-    row_inside (row_width Timetbls) c.loop-i.i a.to _ c.loop-i-test.true c.requires
-
-pub stop_after_at-number-requires : goal.stop_after_at-number-requires
-stop_after_at-number-requires c =
-    let a = c.args in
-    row_inside (row_width Timetbls) c.loop-i.i a.to _ c.loop-i-test.true c.requires
-
-pub stop_after_at-validity-requires : goal.stop_after_at-validity-requires
-stop_after_at-validity-requires c =
-    let a = c.args in
-    row_inside (row_width Timetbls) c.loop-i.i a.to _ c.loop-i-test.true c.requires
-
-pub stop_after_at-mode-requires : goal.stop_after_at-mode-requires
-stop_after_at-mode-requires c =
-    let a = c.args in
-    row_inside (row_width Timetbls) c.loop-i.i a.to _ c.loop-i-test.true c.requires
 
 pub returns-then-not-ranged : goal.returns-then-not-ranged
 returns-then-not-ranged c =

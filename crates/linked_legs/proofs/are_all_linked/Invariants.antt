@@ -1,10 +1,6 @@
 -- `linked_legs::are_all_linked` meets its contract: what is left is the whole, of each test. Assumes nothing.
-use Prim.Native.Nat.{◌-◌}
 use Rattle.linked_legs.proofs.LinkingLaws.{Linking}
 use Rattle.linked_legs.proofs.are_all_linked.Given as goal
 
 abbrev pub invariant-loop-i : goal.invariant-loop-i
 invariant-loop-i l = Linking l.t l.from l.to l.n l.i l.number l.validity l.mode
-
-abbrev pub decreases-loop-i : goal.decreases-loop-i
-decreases-loop-i l = l.to - l.i

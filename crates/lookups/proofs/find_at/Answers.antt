@@ -2,8 +2,8 @@
 use Rattle.keys.proofs.Among.{hit_found}
 use Rattle.lookups.proofs.find_at.Goals as goal
 
-pub returns-in-Row : goal.returns-in-Row
-returns-in-Row c = hit_found _ _ _ _ _ c.found_by_place.ensures _ c.in-Row.is
+pub returns-in-Some : goal.returns-in-Some
+returns-in-Some c = hit_found _ _ _ _ _ c.found_by_place.ensures _ c.in-Some.is
 
-pub returns-in-NoRow : goal.returns-in-NoRow
-returns-in-NoRow c = c.find_among.ensures
+pub returns-in-None : goal.returns-in-None
+returns-in-None c = c.find_among.ensures

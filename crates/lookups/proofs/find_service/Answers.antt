@@ -2,14 +2,14 @@
 use Rattle.keys.proofs.Among.{hit_found}
 use Rattle.lookups.proofs.find_service.Goals as goal
 
-pub returns-in-Row : goal.returns-in-Row
-returns-in-Row c = hit_found _ _ _ _ _ c.found_by_place.ensures _ c.in-Row.is
+pub returns-in-Some : goal.returns-in-Some
+returns-in-Some c = hit_found _ _ _ _ _ c.found_by_place.ensures _ c.in-Some.is
 
-pub returns-in-Row-found_by_halves : goal.returns-in-Row-found_by_halves
-returns-in-Row-found_by_halves c = hit_found _ _ _ _ _ c.found_by_halves.ensures _ c.in-Row-found_by_halves.is
+pub returns-in-Some-found_by_halves : goal.returns-in-Some-found_by_halves
+returns-in-Some-found_by_halves c = hit_found _ _ _ _ _ c.found_by_halves.ensures _ c.in-Some-found_by_halves.is
 
-pub returns-in-Row-found_by_blocks : goal.returns-in-Row-found_by_blocks
-returns-in-Row-found_by_blocks c = hit_found _ _ _ _ _ c.found_by_blocks.ensures _ c.in-Row-found_by_blocks.is
+pub returns-in-Some-found_by_blocks : goal.returns-in-Some-found_by_blocks
+returns-in-Some-found_by_blocks c = hit_found _ _ _ _ _ c.found_by_blocks.ensures _ c.in-Some-found_by_blocks.is
 
-pub returns-in-NoRow-found_by_blocks : goal.returns-in-NoRow-found_by_blocks
-returns-in-NoRow-found_by_blocks c = c.found_by_scan.ensures
+pub returns-in-None-found_by_blocks : goal.returns-in-None-found_by_blocks
+returns-in-None-found_by_blocks c = c.found_by_scan.ensures

@@ -1,22 +1,9 @@
 -- `found_by_scan` meets its contract: the row that is found was tested, and at the end none is left. Assumes nothing.
-use mathlib.Core.Path.{refl, ◌∙◌}
+use mathlib.Core.Path.{◌∙◌}
 use Rattle.iff.specs.Tables.{keyed}
 use Rattle.keys.proofs.Blocks.{none_left, one_on}
-use Rattle.keys.proofs.Lookup.{key_column}
-use Rattle.keys.proofs.Among.{row_among, row_found, none_found}
+use Rattle.keys.proofs.Among.{none_found}
 use Rattle.lookups.proofs.found_by_scan.Goals as goal
-
-pub keyed_at-requires : goal.keyed_at-requires
-keyed_at-requires c = (
-  key_column c.args.file _ _ _ c.row_width-w.ensures.is c.key_tag-tag.ensures c.key_word-col.ensures,
-  row_among _ c.args.used _ _ c.rows_among-rows.ensures _ c.loop-i-test.true,
-)
-
-pub returns-then-keyed_at : goal.returns-then-keyed_at
-returns-then-keyed_at c =
-    let a = c.args in
-    row_found a.file _ _ _ c.row_width-w.ensures.is c.key_tag-tag.ensures c.key_word-col.ensures a.t.now a.used
-    a.key _ c.rows_among-rows.ensures _ c.loop-i-test.true _ c.keyed_at.ensures c.if-keyed_at.true
 
 pub loop-i-preserved : goal.loop-i-preserved
 loop-i-preserved c =
@@ -29,6 +16,3 @@ returns c =
     let a = c.args in
     none_found a.file _ _ _ c.row_width-w.ensures.is c.key_tag-tag.ensures c.key_word-col.ensures a.t.now a.used
     a.key _ c.rows_among-rows.ensures (c.loop-i.invariant ∙ none_left (keyed _ _ a.key) _ a.t.now _ c.loop-i.i c.loop-i-test.false)
-
-pub loop-i-init : goal.loop-i-init
-loop-i-init c = refl

@@ -3,8 +3,8 @@ use mathlib.Core.Path.{refl}
 use mathlib.Core.Bool.{true≢false}
 use Rattle.named_places.proofs.ask_missing.Goals as goal
 
-pub returns-in-Row : goal.returns-in-Row
-returns-in-Row c = (refl, (λ e. (e, refl)))
+pub returns-in-Some : goal.returns-in-Some
+returns-in-Some c = (refl, (λ e. (e, refl)))
 
 pub returns : goal.returns
 returns c = (c.ask.ensures, (λ e. absurd (true≢false e)))

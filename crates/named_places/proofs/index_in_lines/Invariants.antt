@@ -1,11 +1,7 @@
--- `index_in_lines` meets its contract: each line is gone through once, and no slot is added. Assumes nothing.
-use Prim.Native.Nat.{◌-◌}
+-- `index_in_lines` meets its contract: no slot is added. Assumes nothing.
 use mathlib.Core.Path.{◌≡◌}
 use lib.ListN.{length}
 use Rattle.named_places.proofs.index_in_lines.Given as goal
 
-abbrev pub invariant-loop-at : goal.invariant-loop-at
-invariant-loop-at l = length l.places ≡ length l.initial.places
-
-abbrev pub decreases-loop-at : goal.decreases-loop-at
-decreases-loop-at l = length l.text - l.at
+abbrev pub invariant-loop-line : goal.invariant-loop-line
+invariant-loop-line l = length l.places ≡ length l.initial.places

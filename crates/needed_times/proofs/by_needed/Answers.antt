@@ -9,22 +9,22 @@ use Rattle.needed_times.proofs.NeededLaws.{pair_alone, no_pair}
 use mir.Syntax.{w32}
 use Rattle.needed_times.proofs.by_needed.Goals as goal
 
-pub returns-in-Possibility : goal.returns-in-Possibility
-returns-in-Possibility c R e f g h =
+pub returns-in-Some : goal.returns-in-Some
+returns-in-Some c R e f g h =
     let a = c.args in
     c.core.ensures
     ∙ rw (to_z-of_z {w = w32} c.ranges.gap)
     (pair_alone a.gap (change_flag (station_row R a.a.station))
     (best_for R (rows_found a.timetbls.now a.a) (rows_found a.timetbls.now a.b) a.a.station a.from a.to)
-    (change_time (station_row R a.a.station)) (pair_at R a.a.station a.from.service a.to.service) c.in-Possibility.p
-    (sym (c.pair_at-pair.ensures R f) ∙ c.in-Possibility.is))
+    (change_time (station_row R a.a.station)) (pair_at R a.a.station a.from.service a.to.service) c.in-Some.p
+    (sym (c.pair_at-pair.ensures R f) ∙ c.in-Some.is))
 
-pub returns-in-NoPair : goal.returns-in-NoPair
-returns-in-NoPair c R e f g h =
+pub returns-in-None : goal.returns-in-None
+returns-in-None c R e f g h =
     let a = c.args in
     c.without_pair.ensures R e g h
     ∙ rw (to_z-of_z {w = w32} c.ranges.gap)
     (no_pair a.gap (change_flag (station_row R a.a.station))
     (best_for R (rows_found a.timetbls.now a.a) (rows_found a.timetbls.now a.b) a.a.station a.from a.to)
     (change_time (station_row R a.a.station)) (pair_at R a.a.station a.from.service a.to.service)
-    (sym (c.pair_at-pair.ensures R f) ∙ c.in-NoPair.is))
+    (sym (c.pair_at-pair.ensures R f) ∙ c.in-None.is))

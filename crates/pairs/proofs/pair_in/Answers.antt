@@ -1,25 +1,16 @@
 -- `pair_in` meets its contract: what is left has the same first pair as the whole. Assumes nothing.
-use mathlib.Core.Path.{refl, ap, sym, ◌∙◌}
-use borrow.Author.Rules.{rules}
+use Rattle.std.specs.Prelude.{Some}
+use mathlib.Core.Path.{ap, sym, ◌∙◌}
 use Rattle.iff.specs.Tables.{group_width}
 use Rattle.iff.specs.declared.GroupFile.TheVariants.{Changes}
-use Rattle.iff_desk.specs.declared.Pair.TheVariants.{Possibility}
-use Rattle.tables.proofs.Rows.{row_inside}
 use Rattle.pairs.specs.Rows.{is_pair}
 use Rattle.pairs.proofs.RowLaws.{no_pair, pair_here, pair_on}
 use Rattle.pairs.proofs.pair_in.Goals as goal
 
-pub is_pair-requires : goal.is_pair-requires
-is_pair-requires c = row_inside (group_width Changes) _ _ _ c.loop-i-test.true c.requires
-
-pub word_at-requires : goal.word_at-requires
-word_at-requires c =
-    (search rules, row_inside (group_width Changes) _ _ _ c.loop-i-test.true c.requires)
-
 pub returns-then-is_pair : goal.returns-then-is_pair
 returns-then-is_pair c =
     let a = c.args in
-    ap Possibility c.word_at.ensures
+    ap Some c.word_at.ensures
     ∙ pair_here (is_pair a.a a.b) (group_width Changes) a.t.now a.to c.loop-i.i c.loop-i-test.true _
     c.is_pair.ensures c.if-is_pair.true
     ∙ sym c.loop-i.invariant
@@ -35,6 +26,3 @@ pub returns : goal.returns
 returns c =
     let a = c.args in
     no_pair (is_pair a.a a.b) (group_width Changes) a.t.now a.to c.loop-i.i c.loop-i-test.false ∙ sym c.loop-i.invariant
-
-pub loop-i-init : goal.loop-i-init
-loop-i-init c = refl

@@ -1,5 +1,4 @@
 -- `pair_in` meets its contract: what is left has the same first pair as the whole. Assumes nothing.
-use Prim.Native.Nat.{◌-◌}
 use mathlib.Core.Path.{◌≡◌}
 use Rattle.iff.specs.Lists.{kept}
 use Rattle.iff.specs.Tables.{group_width}
@@ -13,6 +12,3 @@ abbrev pub invariant-loop-i : goal.invariant-loop-i
 invariant-loop-i l =
     pair_in (kept (is_pair l.a l.b) (rows_between (group_width Changes) l.t l.from l.to))
     ≡ pair_in (kept (is_pair l.a l.b) (rows_between (group_width Changes) l.t l.i l.to))
-
-abbrev pub decreases-loop-i : goal.decreases-loop-i
-decreases-loop-i l = l.to - l.i

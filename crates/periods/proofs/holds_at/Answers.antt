@@ -14,7 +14,7 @@ returns-in_default-day_of c =
     rw (
       ← c.word_at-first.ensures,
       ← c.day_of.ensures,
-      c.in-Day.is,
+      c.in-Some.is,
       ← c.word_at-last.ensures,
       ← c.day_of-2.ensures,
       c.in_default-day_of.is,
@@ -26,10 +26,10 @@ returns-then-day-from c =
     rw (
       ← c.word_at-first.ensures,
       ← c.day_of.ensures,
-      c.in-Day.is,
+      c.in-Some.is,
       ← c.word_at-last.ensures,
       ← c.day_of-2.ensures,
-      c.in-Day-day_of.is,
+      c.in-Some-day_of.is,
       lt-leb _ _ c.if-day-from.true,
     )
 
@@ -39,9 +39,9 @@ returns c =
     rw (
       ← c.word_at-first.ensures,
       ← c.day_of.ensures,
-      c.in-Day.is,
+      c.in-Some.is,
       ← c.word_at-last.ensures,
       ← c.day_of-2.ensures,
-      c.in-Day-day_of.is,
+      c.in-Some-day_of.is,
       le-leb _ _ c.if-day-from.false,
     )

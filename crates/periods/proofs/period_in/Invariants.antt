@@ -1,5 +1,4 @@
 -- `period_in` meets its contract: the first row that holds the day. Assumes nothing.
-use Prim.Native.Nat.{◌-◌}
 use mathlib.Core.Path.{◌≡◌}
 use mathlib.Core.List.{[]}
 use lib.ListN.{get_or}
@@ -15,6 +14,3 @@ use Rattle.periods.proofs.period_in.Given as goal
 abbrev pub invariant-loop-i : goal.invariant-loop-i
 invariant-loop-i l =
     first_held l.day (rows_between (row_width (Groups Timezone)) l.t l.from l.to) ≡ get_or (kept (holds l.day) (rows_between (row_width (Groups Timezone)) l.t l.i l.to)) 0 []
-
-abbrev pub decreases-loop-i : goal.decreases-loop-i
-decreases-loop-i l = l.to - l.i

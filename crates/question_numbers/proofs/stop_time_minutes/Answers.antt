@@ -3,8 +3,8 @@ use mir.Syntax.{w32}
 use mir.Facts.{to_z-of_z}
 use Rattle.question_numbers.proofs.stop_time_minutes.Goals as goal
 
-pub returns-in-Times : goal.returns-in-Times
-returns-in-Times c =
+pub returns-in-Ok : goal.returns-in-Ok
+returns-in-Ok c =
     let arrives = c.local_of-arrives in
     let arrives_reference = c.reference_of-arrives_reference in
     let departs = c.local_of-departs in
@@ -13,8 +13,8 @@ returns-in-Times c =
     (rw (to_z-of_z {w = w32} {z = arrives_reference.result} (record { sfits = arrives_reference.type_inv }))
     (rw (to_z-of_z {w = w32} {z = departs.result} (record { sfits = departs.type_inv }))
     (rw (to_z-of_z {w = w32} {z = departs_reference.result} (record { sfits = departs_reference.type_inv }))
-    (rw c.in-Times.is
+    (rw c.in-Ok.is
     (rw (arrives.ensures, arrives_reference.ensures, departs.ensures, departs_reference.ensures))))))
 
-pub returns-in-StopTimeRefused : goal.returns-in-StopTimeRefused
-returns-in-StopTimeRefused c = rw c.in-StopTimeRefused.is
+pub returns-in-Err : goal.returns-in-Err
+returns-in-Err c = rw c.in-Err.is

@@ -21,31 +21,18 @@ read_platform-read_stops-requires t c = let a = c.args in
     let h = c.requires.0 in
     let x = driving_start a.form (keys_from a.form a.counts a.companies.now a.modes.now a.stations.now a.footnotes.now) _
     a.n a.k _ _ _ _ _ d in
-    let p = c.put_platform.ensures.stepped _ _ c.in-Next.is in (
+    let p = c.put_platform.ensures.stepped _ _ c.in_ok-next.was in (
       omega (arith, c.requires.0, h, goes_further _ _ _ _ _ _ _ _ _ _ d _ _ _ _ x _ _ _ h p, p.line, p.nexts),
       drivable _ _ _ _ _ _ _ _ _ _ d _ _ _ _ (driving_next _ _ _ _ _ _ _ _ _ _ d _ _ _ _ x _ _ _ h p),
     )
 
-pub read_platform-shape_of-t-in-Unsure : goal.read_platform-shape_of-t-in-Unsure
-read_platform-shape_of-t-in-Unsure t c = c.put_platform.auto.t
-
-pub read_platform-returns-in-Unsure : goal.read_platform-returns-in-Unsure
-read_platform-returns-in-Unsure t c = let a = c.args in
-    let d = c.requires.1 in
-    let x = driving_start a.form (keys_from a.form a.counts a.companies.now a.modes.now a.stations.now a.footnotes.now) _
-    a.n a.k _ _ _ _ _ d in
-    drove_stuck _ _ _ _ _ _ _ _ _ _ d _ _ _ _ x _ (c.put_platform.ensures.kept c.in-Unsure.is)
-
-pub read_platform-shape_of-t-in-Next : goal.read_platform-shape_of-t-in-Next
-read_platform-shape_of-t-in-Next t c = c.read_stops.auto.t ∙ c.put_platform.auto.t
-
-pub read_platform-returns-in-Next : goal.read_platform-returns-in-Next
-read_platform-returns-in-Next t c = let a = c.args in
+pub read_platform-returns : goal.read_platform-returns
+read_platform-returns t c = let a = c.args in
     let d = c.requires.1 in
     let h = c.requires.0 in
     let x = driving_start a.form (keys_from a.form a.counts a.companies.now a.modes.now a.stations.now a.footnotes.now) _
     a.n a.k _ _ _ _ _ d in
-    let p = c.put_platform.ensures.stepped _ _ c.in-Next.is in
+    let p = c.put_platform.ensures.stepped _ _ c.in_ok-next.was in
     drove_on _ _ _ _ _ _ _ _ _ _ d _ _ _ _ (driving_next _ _ _ _ _ _ _ _ _ _ d _ _ _ _ x _ _ _ h p) _ _ c.read_stops.ensures
 
 pub read_stops-loop-at-init : goal.read_stops-loop-at-init
@@ -75,21 +62,21 @@ pub read_stops-put_line-requires : goal.read_stops-put_line-requires
 read_stops-put_line-requires t c = let d = drivable _ _ _ _ _ _ _ _ _ _ c.requires _ _ _ _ c.loop-at.invariant in
     (c.loop-at-test.true, refl, d.standing.few, first_room _ _ _ _ _ _ d c.loop-at-test.true)
 
-pub read_stops-shape_of-t-in-Unsure : goal.read_stops-shape_of-t-in-Unsure
-read_stops-shape_of-t-in-Unsure t c = c.put_line.auto.t ∙ c.loop-at.invariant.kept
+pub read_stops-shape_of-t-in-None : goal.read_stops-shape_of-t-in-None
+read_stops-shape_of-t-in-None t c = c.put_line.auto.t ∙ c.loop-at.invariant.kept
 
-pub read_stops-returns-in-Unsure : goal.read_stops-returns-in-Unsure
-read_stops-returns-in-Unsure t c = drove_stuck _ _ _ _ _ _ _ _ _ _ c.requires _ _ _ _ c.loop-at.invariant _
-    (c.put_line.ensures.kept c.in-Unsure.is)
+pub read_stops-returns-in-None : goal.read_stops-returns-in-None
+read_stops-returns-in-None t c = drove_stuck _ _ _ _ _ _ _ _ _ _ c.requires _ _ _ _ c.loop-at.invariant _
+    (c.put_line.ensures.kept c.in-None.is)
 
 pub read_stops-loop-at-smaller : goal.read_stops-loop-at-smaller
-read_stops-loop-at-smaller t c = let p = c.put_line.ensures.stepped _ _ c.in-Next.is in
+read_stops-loop-at-smaller t c = let p = c.put_line.ensures.stepped _ _ c.in-Some.is in
     omega (arith, p.line, p.nexts, c.loop-at-test.true)
 
 pub read_stops-loop-at-preserved : goal.read_stops-loop-at-preserved
 read_stops-loop-at-preserved t c = driving_next _ _ _ _ _ _ _ _ _ _ c.requires _ _ _ _ c.loop-at.invariant _ _ _
     c.loop-at-test.true
-    (c.put_line.ensures.stepped _ _ c.in-Next.is)
+    (c.put_line.ensures.stepped _ _ c.in-Some.is)
 
 pub read_stops-shape_of-t : goal.read_stops-shape_of-t
 read_stops-shape_of-t t c = c.loop-at.invariant.kept

@@ -5,7 +5,7 @@ use borrow.Author.Tests.{not-false}
 use Rattle.iff.specs.Columns.{picture_from}
 use Rattle.iff.specs.declared.GroupFile.TheVariants.{Footnote}
 use Rattle.iff.specs.declared.File.TheVariants.{Groups}
-use Rattle.tables.proofs.First.{found}
+use Rattle.std.specs.Option.{is_some}
 use Rattle.quick_lines.specs.Pictures.{Pictured}
 use Rattle.quick_words.proofs.FieldLaws.{nothing, there, platform_told}
 use Rattle.quick_footnotes.proofs.platform.Goals as goal
@@ -25,7 +25,7 @@ returns c h =
           platform_told a.text.now a.at _ a.n refl (c.looks.ensures (not-false _ c.if-not-looks.false-raw))
           _ c.number-footnote.ensures;
       timed = refl;
-      met = there (Groups Footnote) a.used a.footnotes.now c.number-footnote.result _ c.found_by_place.ensures (ap found c.in-Row.is);
+      met = there (Groups Footnote) a.used a.footnotes.now c.number-footnote.result _ c.found_by_place.ensures (ap is_some c.in-Some.is);
     }
 
 pub returns-then-not-looks : goal.returns-then-not-looks

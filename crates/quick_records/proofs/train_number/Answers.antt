@@ -5,7 +5,7 @@ use borrow.Author.Tests.{not-false}
 use Rattle.iff.specs.Columns.{picture_from}
 use Rattle.iff.specs.declared.RowFile.TheVariants.{Company}
 use Rattle.iff.specs.declared.File.TheVariants.{Rows}
-use Rattle.tables.proofs.First.{found}
+use Rattle.std.specs.Option.{is_some}
 use Rattle.quick_lines.specs.Pictures.{Pictured}
 use Rattle.quick_words.proofs.FieldLaws.{nothing, there, train_told}
 use Rattle.quick_records.proofs.train_number.Goals as goal
@@ -25,7 +25,7 @@ returns c h =
           train_told a.text.now a.at _ a.n refl (c.looks.ensures (not-false _ c.if-not-looks.false-raw))
           _ _ _ _ c.number-company.ensures c.number-number.ensures c.stop_word-first.ensures c.stop_word-last.ensures;
       timed = refl;
-      met = there (Rows Company) a.used a.companies.now c.number-company.result _ c.found_by_place.ensures (ap found c.in-Row.is);
+      met = there (Rows Company) a.used a.companies.now c.number-company.result _ c.found_by_place.ensures (ap is_some c.in-Some.is);
     }
 
 pub returns-then-not-looks : goal.returns-then-not-looks

@@ -5,7 +5,7 @@ use borrow.Author.Tests.{not-false}
 use Rattle.iff.specs.Columns.{picture_from}
 use Rattle.iff.specs.declared.RowFile.TheVariants.{Trnsmode}
 use Rattle.iff.specs.declared.File.TheVariants.{Rows}
-use Rattle.tables.proofs.First.{found}
+use Rattle.std.specs.Option.{is_some}
 use Rattle.quick_lines.specs.Pictures.{Pictured}
 use Rattle.quick_words.proofs.FieldLaws.{nothing, there, transport_told}
 use Rattle.quick_records.proofs.transport.Goals as goal
@@ -26,7 +26,7 @@ returns c h =
           (sym c.all_blank.ensures ∙ c.if-all_blank.false)
           _ _ _ c.code-mode.ensures c.stop_word-first.ensures c.stop_word-last.ensures;
       timed = refl;
-      met = there (Rows Trnsmode) a.used a.modes.now c.code-mode.result _ c.found_by_place.ensures (ap found c.in-Row.is);
+      met = there (Rows Trnsmode) a.used a.modes.now c.code-mode.result _ c.found_by_place.ensures (ap is_some c.in-Some.is);
     }
 
 pub returns-then-not-looks : goal.returns-then-not-looks

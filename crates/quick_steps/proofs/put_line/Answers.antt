@@ -1,7 +1,6 @@
 -- `quick_steps::put_line` meets its contract: a line that passes leads on, and its row is the block's. Assumes nothing.
-use mathlib.Core.Path.{refl}
 use native.Mathlib.Omega.{arith}
-use Rattle.quick_steps.proofs.LineLaws.{unsure, told_turn}
+use Rattle.quick_steps.proofs.LineLaws.{told_turn}
 use Rattle.quick_steps.proofs.put_line.Goals as goal
 
 pub put_words-requires : goal.put_words-requires
@@ -12,8 +11,5 @@ pub returns : goal.returns
 returns c =
     let a = c.args in
     told_turn a.form a.counts a.companies.now a.modes.now a.stations.now a.footnotes.now a.block.now a.at a.st
-    a.n a.k a.number a.t.now _ a.i a.letter _ c.tested_words-w.ensures _ (c.goes_on.ensures _ c.in-Goes.is)
+    a.n a.k a.number a.t.now _ a.i a.letter _ c.tested_words-w.ensures _ (c.goes_on.ensures _ c.in_ok-to.was)
     _ c.put_words.ensures
-
-pub returns-in_default : goal.returns-in_default
-returns-in_default c = unsure _ _ _ _ _ _ _ _ _ _ _ _ _ _ _ refl

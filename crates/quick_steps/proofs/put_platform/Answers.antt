@@ -22,10 +22,7 @@ returns c =
     a.n a.k a.number a.t.now _ a.i a.letter _
     (λ some. platform_passes a.form a.counts a.companies.now a.modes.now a.stations.now a.footnotes.now a.block.now a.at
     a.n a.k a.st.stops _ some a.letter c.requires.1 c.if-letter-ne63.false (c.platform-w.ensures some))
-    _ (sym c.goes.ensures ∙ c.in-Goes.is) _ c.put_words.ensures
+    _ (sym c.goes.ensures ∙ c.in_ok-to.was) _ c.put_words.ensures
 
 pub returns-then-letter-ne63 : goal.returns-then-letter-ne63
 returns-then-letter-ne63 c = unsure _ _ _ _ _ _ _ _ _ _ _ _ _ _ _ refl
-
-pub returns-in_default : goal.returns-in_default
-returns-in_default c = unsure _ _ _ _ _ _ _ _ _ _ _ _ _ _ _ refl

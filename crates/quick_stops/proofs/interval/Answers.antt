@@ -8,7 +8,7 @@ use Rattle.iff.specs.Times.{interval}
 use Rattle.iff.specs.declared.RowFile.TheVariants.{Stations}
 use Rattle.iff.specs.declared.File.TheVariants.{Rows}
 use Rattle.iff_rules.specs.Meaning.{most_stops}
-use Rattle.tables.proofs.First.{found}
+use Rattle.std.specs.Option.{is_some}
 use Rattle.quick_lines.specs.Pictures.{Pictured}
 use Rattle.quick_words.proofs.FieldLaws.{nothing, there, in_time, interval_told}
 use Rattle.quick_stops.proofs.interval.Goals as goal
@@ -30,7 +30,7 @@ returns c h =
           (sym c.all_blank.ensures ∙ c.if-all_blank.false)
           _ _ _ c.code-station.ensures c.number-arrival.ensures c.number-departure.ensures;
       timed = in_time a.stops _ (interval c.number-arrival.result c.number-departure.result) few c.is_interval.ensures (not-false _ c.if-not-is_interval.false-raw);
-      met = there (Rows Stations) a.used a.stations.now c.code-station.result _ c.found_by_place.ensures (ap found c.in-Row.is);
+      met = there (Rows Stations) a.used a.stations.now c.code-station.result _ c.found_by_place.ensures (ap is_some c.in-Some.is);
     }
 
 pub returns-then-not-looks : goal.returns-then-not-looks

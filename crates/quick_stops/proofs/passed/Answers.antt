@@ -5,7 +5,7 @@ use borrow.Author.Tests.{not-false}
 use Rattle.iff.specs.Columns.{picture_from}
 use Rattle.iff.specs.declared.RowFile.TheVariants.{Stations}
 use Rattle.iff.specs.declared.File.TheVariants.{Rows}
-use Rattle.tables.proofs.First.{found}
+use Rattle.std.specs.Option.{is_some}
 use Rattle.quick_lines.specs.Pictures.{Pictured}
 use Rattle.quick_words.proofs.FieldLaws.{nothing, there, passed_told}
 use Rattle.quick_stops.proofs.passed.Goals as goal
@@ -26,7 +26,7 @@ returns c h =
           (sym c.all_blank.ensures ∙ c.if-all_blank.false)
           _ c.code-station.ensures;
       timed = refl;
-      met = there (Rows Stations) a.used a.stations.now c.code-station.result _ c.found_by_place.ensures (ap found c.in-Row.is);
+      met = there (Rows Stations) a.used a.stations.now c.code-station.result _ c.found_by_place.ensures (ap is_some c.in-Some.is);
     }
 
 pub returns-then-not-looks : goal.returns-then-not-looks

@@ -1,20 +1,14 @@
--- An instance of the laws of one test of all bytes. Assumes nothing.
-use mathlib.Core.Path.{refl, sym, ◌∙◌}
+-- The test of all bytes. Assumes nothing.
+use mathlib.Core.Path.{◌∙◌}
 use borrow.Author.Rules.{rules}
-use borrow.Author.Tests.{not-true, not-false}
-use Rattle.text.proofs.PictureLaws.{breaks, holds_on, held_all}
+use borrow.Author.Tests.{tests}
+use Rattle.std.proofs.lemmas.Iterator.{YieldsList-from_slice}
+use Rattle.std.proofs.lemmas.Iterator.Search.{all_from_yields_List}
+use Rattle.iff.specs.Bytes.{zero_or_one}
+use Rattle.record_lines.proofs.AllLaws.{list_all_is}
 use Rattle.record_lines.proofs.all_marks.Goals as goal
 
-pub returns-then-not-is_mark : goal.returns-then-not-is_mark
-returns-then-not-is_mark c =
-    breaks _ _ _ c.loop-marks-test.true (sym c.is_mark.ensures ∙ not-true _ c.if-not-is_mark.true-raw) c.loop-marks.invariant
-
-pub loop-marks-preserved : goal.loop-marks-preserved
-loop-marks-preserved c =
-    holds_on _ _ _ c.loop-marks-test.true (sym c.is_mark.ensures ∙ not-false _ c.if-not-is_mark.false-raw) c.loop-marks.invariant
-
-pub loop-marks-init : goal.loop-marks-init
-loop-marks-init c = (search rules, refl)
-
 pub returns : goal.returns
-returns c = held_all _ _ _ c.loop-marks-test.false c.loop-marks.invariant
+returns c =
+    all_from_yields_List zero_or_one _ _ _ c.all.ensures.ran (YieldsList-from_slice c.args.line.now cc) (λ x b q k. search (rules, tests))
+    ∙ list_all_is zero_or_one c.args.line.now

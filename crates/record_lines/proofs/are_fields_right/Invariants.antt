@@ -1,10 +1,6 @@
 -- What is left to test is the whole. Assumes nothing.
-use Prim.Native.Nat.{◌-◌}
 use Rattle.record_lines.proofs.ColumnLaws.{Testing}
 use Rattle.record_lines.proofs.are_fields_right.Given as goal
 
 abbrev pub invariant-loop-j : goal.invariant-loop-j
 invariant-loop-j l = Testing l.line l.first l.end l.j
-
-abbrev pub decreases-loop-j : goal.decreases-loop-j
-decreases-loop-j l = l.end - l.j

@@ -1,5 +1,4 @@
 -- What is left to put are the words of the marks that are left. Assumes nothing.
-use mathlib.Core.Path.{◌∙◌}
 use lib.ListN.{length}
 use Rattle.records.proofs.VectorLaws.{mark_begin, mark_on, mark_end}
 use Rattle.records.proofs.RowLaws.{cleared_length}
@@ -9,16 +8,9 @@ pub loop-i-init : goal.loop-i-init
 loop-i-init c =
     mark_begin _ _ (length c.args.out.now) _ c.requires.1 c.clear.ensures
 
-pub marks_at-requires : goal.marks_at-requires
-marks_at-requires c = (c.loop-i-test.true, c.requires.0)
-
 pub loop-i-preserved : goal.loop-i-preserved
 loop-i-preserved c =
     mark_on _ _ _ _ _ c.loop-i-test.true c.loop-i.invariant _ c.marks_at.ensures
-
-pub shape_of-out : goal.shape_of-out
-shape_of-out c =
-    c.loop-i.invariant.kept ∙ cleared_length (length c.args.out.now) _ _ c.clear.ensures
 
 pub returns : goal.returns
 returns c =

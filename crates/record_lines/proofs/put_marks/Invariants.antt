@@ -1,11 +1,6 @@
 -- What is left to put are the words of the marks that are left. Assumes nothing.
-use Prim.Native.Nat.{◌-◌}
-use Rattle.iff.specs.Values.{vector_width}
 use Rattle.records.proofs.VectorLaws.{Marking}
 use Rattle.record_lines.proofs.put_marks.Given as goal
 
 abbrev pub invariant-loop-i : goal.invariant-loop-i
 invariant-loop-i l = Marking l.tag l.line l.initial.out l.out l.i
-
-abbrev pub decreases-loop-i : goal.decreases-loop-i
-decreases-loop-i l = vector_width - l.i

@@ -3,13 +3,13 @@ use Rattle.iff.specs.Bytes.{bytes}
 use Rattle.text_puts.proofs.TextLaws.{then}
 use Rattle.reports.proofs.put_place.Goals as goal
 
-pub returns-in-Nowhere : goal.returns-in-Nowhere
+pub returns-in-None : goal.returns-in-None
 unfolding bytes
-returns-in-Nowhere c =
-    rw c.in-Nowhere.is
+returns-in-None c =
+    rw c.in-None.is
     (then c.put_byte-to.ensures c.put_byte.ensures)
 
-pub returns-in-At : goal.returns-in-At
-returns-in-At c =
-    rw c.in-At.is
+pub returns-in-Some : goal.returns-in-Some
+returns-in-Some c =
+    rw c.in-Some.is
     (then c.put_byte-to.ensures c.put_name.ensures)

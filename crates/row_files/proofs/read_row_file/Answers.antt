@@ -1,4 +1,5 @@
 -- `row_files::read_row_file` meets its contract: a first line and the rows after it make a file. Assumes nothing.
+use Rattle.std.proofs.Common.{rules, ◌≡◌, Err}
 use Prim.Native.Nat.{ℕ, ◌<◌}
 use mathlib.Core.Path.{refl, ap}
 use mathlib.Core.List.{List}
@@ -19,80 +20,82 @@ pub returns-then-text-eq0 : goal.returns-then-text-eq0
 returns-then-text-eq0 c =
     let file : File = Rows c.args.file in
     let agrees : Context → Type 0 = λ k. StationKeys k c.args.countries.now c.args.zones.now in
-    rw c.in-Fine.is
+    rw c.in_ok-v.was
     (absent file c.args.form agrees c.args.header.now c.args.text.now c.args.t.now c.if-text-eq0.true
-    (c.requires (ap fine c.in-Fine.is)))
+    (c.requires (ap fine c.in_ok-v.was)))
 
 pub begin_file-requires : goal.begin_file-requires
 begin_file-requires c =
     let more : 0 < length c.args.text.now = omega (arith, c.if-text-eq0.false) in
-    (more, c.requires (ap fine c.in-Fine.is))
+    (more, c.requires (ap fine c.in_ok-v.was))
 
-pub returns-in-Fault : goal.returns-in-Fault
-returns-in-Fault c =
+pub returns-in_err-v : goal.returns-in_err-v
+returns-in_err-v c =
     let file : File = Rows c.args.file in
     let agrees : Context → Type 0 = λ k. StationKeys k c.args.countries.now c.args.zones.now in
-    rw c.in-Fault.is
-    (passed file c.args.form agrees c.args.header.now c.args.text.now c.args.t.now _ _ _ refl)
+    let handed : c.from_residual.result ≡ Err c.in_err-v.field-0.0 = search rules in
+    rw handed (rw c.in_err-v.was
+    (passed file c.args.form agrees c.args.header.now c.args.text.now c.args.t.now _ _ _ refl))
 
-pub returns-in-Broken : goal.returns-in-Broken
-returns-in-Broken c =
+pub returns-in-Err : goal.returns-in-Err
+returns-in-Err c =
     let file : File = Rows c.args.file in
     let agrees : Context → Type 0 = λ k. StationKeys k c.args.countries.now c.args.zones.now in
     let more : 0 < length c.args.text.now = omega (arith, c.if-text-eq0.false) in
-    rw c.in-Fine.is
+    rw c.in_ok-v.was
     (first_refused file c.args.form agrees c.args.header.now c.args.text.now c.args.t.now
     (drop 1 (lines c.args.text.now)) (some_lines c.args.text.now more) _ c.begin_file.ensures.test _ _
-    (ap begin_test c.in-Broken.is) c.begin_file.ensures.kept)
+    (ap begin_test c.in-Err.is) c.begin_file.ensures.kept)
 
 pub read_rows-requires : goal.read_rows-requires
 read_rows-requires c =
-    plain_begun c.args.file c.args.text.now _ _ (c.begin_file.ensures.rest _ c.in-Rest.is)
+    plain_begun c.args.file c.args.text.now _ _ (c.begin_file.ensures.rest _ c.in-Ok.is)
 
 pub set_rises-requires : goal.set_rises-requires
 set_rises-requires c =
     let file : File = Rows c.args.file in
     let agrees : Context → Type 0 = λ k. StationKeys k c.args.countries.now c.args.zones.now in
-    let from : ℕ = c.in-Rest.from in
+    let from : ℕ = c.in-Ok.from in
     let others : List Line = lines (drop from c.args.text.now) in
     let b = c.begin_file.ensures in
-    let split = b.rest _ c.in-Rest.is in
+    let split = b.rest _ c.in-Ok.is in
     flag_fits file c.args.form agrees c.args.header.now c.args.text.now c.args.t.now others split.all _ b.test
-    (ap begin_test c.in-Rest.is) _ _ _ _ _ c.read_rows.ensures b.kept _ _ c.in-AllRead.is
+    (ap begin_test c.in-Ok.is) _ _ _ _ _ c.read_rows.ensures b.kept _ _ c.in_ok-rises-in-Ok.was
     refl
     (begun_first c.args.file _ _ _ split.begun) refl
 
-pub returns-in-Stopped : goal.returns-in-Stopped
-returns-in-Stopped c =
+pub returns-in_err-rises-in-Ok : goal.returns-in_err-rises-in-Ok
+returns-in_err-rises-in-Ok c =
     let file : File = Rows c.args.file in
     let agrees : Context → Type 0 = λ k. StationKeys k c.args.countries.now c.args.zones.now in
-    let from : ℕ = c.in-Rest.from in
+    let from : ℕ = c.in-Ok.from in
     let others : List Line = lines (drop from c.args.text.now) in
     let b = c.begin_file.ensures in
-    let split = b.rest _ c.in-Rest.is in
-    rw c.in-Fine.is
+    let split = b.rest _ c.in-Ok.is in
+    let handed : c.from_residual-in_err-rises-in-Ok.result ≡ Err c.in_err-rises-in-Ok.field-0.0 = search rules in
+    rw handed (rw c.in_ok-v.was
     (rows_refused file c.args.form agrees c.args.header.now c.args.text.now c.args.t.now others split.all _ b.test
-    (ap begin_test c.in-Rest.is) _ _ _ _ _ c.read_rows.ensures b.kept _ _ c.in-Stopped.is)
+    (ap begin_test c.in-Ok.is) _ _ _ _ _ c.read_rows.ensures b.kept _ _ c.in_err-rises-in-Ok.was))
 
-pub returns-in-AllRead : goal.returns-in-AllRead
-returns-in-AllRead c =
+pub returns-in_ok-rises-in-Ok : goal.returns-in_ok-rises-in-Ok
+returns-in_ok-rises-in-Ok c =
     let file : File = Rows c.args.file in
     let agrees : Context → Type 0 = λ k. StationKeys k c.args.countries.now c.args.zones.now in
-    let from : ℕ = c.in-Rest.from in
+    let from : ℕ = c.in-Ok.from in
     let others : List Line = lines (drop from c.args.text.now) in
     let b = c.begin_file.ensures in
-    let split = b.rest _ c.in-Rest.is in
-    rw c.in-Fine.is
+    let split = b.rest _ c.in-Ok.is in
+    rw c.in_ok-v.was
     (rows_accepted file c.args.form agrees c.args.header.now c.args.text.now c.args.t.now others split.all _ b.test
-    (ap begin_test c.in-Rest.is) _ _ _ _ _ c.read_rows.ensures b.kept _ _
-    c.in-AllRead.is c.set_rises.ensures
+    (ap begin_test c.in-Ok.is) _ _ _ _ _ c.read_rows.ensures b.kept _ _
+    c.in_ok-rises-in-Ok.was c.set_rises.ensures
     (begun_first c.args.file _ _ _ split.begun) refl)
 
-pub shape_of-t-in-Broken : goal.shape_of-t-in-Broken
-shape_of-t-in-Broken c = (returns-in-Broken c).kept
+pub shape_of-t-in-Err : goal.shape_of-t-in-Err
+shape_of-t-in-Err c = (returns-in-Err c).kept
 
-pub shape_of-t-in-Stopped : goal.shape_of-t-in-Stopped
-shape_of-t-in-Stopped c = (returns-in-Stopped c).kept
+pub shape_of-t-in_err-rises-in-Ok : goal.shape_of-t-in_err-rises-in-Ok
+shape_of-t-in_err-rises-in-Ok c = (returns-in_err-rises-in-Ok c).kept
 
-pub shape_of-t-in-AllRead : goal.shape_of-t-in-AllRead
-shape_of-t-in-AllRead c = (returns-in-AllRead c).kept
+pub shape_of-t-in_ok-rises-in-Ok : goal.shape_of-t-in_ok-rises-in-Ok
+shape_of-t-in_ok-rises-in-Ok c = (returns-in_ok-rises-in-Ok c).kept

@@ -1,6 +1,6 @@
 -- `row_legs::mark_rows` meets its contract: the marks set and those that the rows left will set are all. Assumes nothing.
 use borrow.Author.Tests.{not-true, not-false}
-use Rattle.row_legs.proofs.WalkLaws.{marking_first, markable, marked_twice, marked_next, all_marked}
+use Rattle.row_legs.proofs.WalkLaws.{markable, marked_twice, marked_next, all_marked}
 use Rattle.row_legs.proofs.mark_rows.Goals as goal
 
 pub mark_at-requires : goal.mark_at-requires
@@ -24,6 +24,3 @@ pub returns : goal.returns
 returns c =
     let a = c.args in
     all_marked a.t.now a.marks.now c.loop-i.marks a.from a.to a.n a.kind c.loop-i.i c.loop-i-test.false c.loop-i.invariant
-
-pub loop-i-init : goal.loop-i-init
-loop-i-init c = marking_first _ _ _ _ _ _ _ c.requires

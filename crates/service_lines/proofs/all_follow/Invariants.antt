@@ -1,11 +1,9 @@
 -- `service_lines::all_follow` meets its contract: what is left to ask is the whole. Assumes nothing.
-use Prim.Native.Nat.{◌-◌}
-use lib.ListN.{length}
+use lib.ListN.{drop}
+use Rattle.iff.specs.Lines.{lines}
+use Rattle.text_lines.specs.Left.{lines_left}
 use Rattle.service_lines.proofs.LinesLaws.{Following}
 use Rattle.service_lines.proofs.all_follow.Given as goal
 
-abbrev pub invariant-loop-at : goal.invariant-loop-at
-invariant-loop-at l = Following l.block l.from l.at
-
-abbrev pub decreases-loop-at : goal.decreases-loop-at
-decreases-loop-at l = length l.block - l.at
+abbrev pub invariant-loop-line : goal.invariant-loop-line
+invariant-loop-line l = Following (lines (drop l.from l.block)) (lines_left l.line-iterator)

@@ -1,25 +1,21 @@
--- `count_stops` meets its contract: those counted and those of the rows that are left are all. Assumes nothing.
-use native.Mathlib.Omega.{arith}
-use Rattle.tables.proofs.Rows.{row_inside}
-use Rattle.service_rows.proofs.StopLaws.{none_counted, all_counted, one_counted, other_passed}
+-- `count_stops` meets its contract: the rows that are stops, counted one by one. Assumes nothing.
+use Prim.Native.Nat.{ℕ, ◌-◌}
+use mathlib.Core.Path.{refl, ◌∙◌}
+use borrow.Author.Rules.{rules}
+use borrow.Author.Tests.{tests}
+use Rattle.std.proofs.lemmas.Iterator.{YieldsList-from_range}
+use Rattle.std.proofs.lemmas.Iterator.Consumers.{YieldsList-from_filter, YieldsList-at, count_from_yields_List}
+use Rattle.iff.specs.Tables.{tag, row_at, row_width}
+use Rattle.iff.specs.declared.File.TheVariants.{Timetbls}
+use Rattle.iff_rules.specs.Order.{is_stop}
+use Rattle.service_rows.proofs.StopLaws.{stops_counted}
 use Rattle.service_rows.proofs.count_stops.Goals as goal
 
-pub is_stop_at-requires : goal.is_stop_at-requires
-is_stop_at-requires c = row_inside _ _ _ _ c.loop-i-test.true c.requires.fits
-
-pub overflow_add-count : goal.overflow_add-count
-overflow_add-count c = omega (arith, c.loop-i.invariant.few, c.loop-i-test.true, c.well_formed)
-
-pub loop-i-preserved-then-is_stop_at : goal.loop-i-preserved-then-is_stop_at
-loop-i-preserved-then-is_stop_at c =
-    one_counted _ _ _ _ _ _ c.loop-i.invariant c.loop-i-test.true _ c.is_stop_at.ensures c.if-is_stop_at.true
-
-pub loop-i-preserved : goal.loop-i-preserved
-loop-i-preserved c =
-    other_passed _ _ _ _ _ _ c.loop-i.invariant c.loop-i-test.true _ c.is_stop_at.ensures c.if-is_stop_at.false
-
 pub returns : goal.returns
-returns c = all_counted _ _ _ _ _ _ c.loop-i.invariant c.loop-i-test.false
-
-pub loop-i-init : goal.loop-i-init
-loop-i-init c = none_counted _ _ _ _
+returns c =
+    let p = c.args.part in
+    count_from_yields_List c.filter.result c.count.result c.count.ensures.ran
+    (YieldsList-from_filter _ (λ (i : ℕ). is_stop (tag (row_at (row_width Timetbls) c.args.t.now i)))
+    (YieldsList-at c.filter.ensures.source (YieldsList-from_range p.from p.to (p.to - p.from) refl refl)) c.filter.ensures.closure
+    (λ x b q k. search (rules, tests)))
+    ∙ stops_counted (row_width Timetbls) c.args.t.now p.from p.to

@@ -1,5 +1,4 @@
 -- `record_row` meets its contract: the first row of its kind that the leg lies in. Assumes nothing.
-use Prim.Native.Nat.{◌-◌}
 use mathlib.Core.Path.{◌≡◌}
 use mathlib.Core.List.{[]}
 use lib.ListN.{get_or}
@@ -13,7 +12,5 @@ use Rattle.service_rows.proofs.record_row.Given as goal
 
 abbrev pub invariant-loop-i : goal.invariant-loop-i
 invariant-loop-i l =
-    record_on l.kind l.leg (rows_between (row_width Timetbls) l.t l.initial.i l.to) ≡ get_or (kept (lies_in l.kind l.leg) (rows_between (row_width Timetbls) l.t l.i l.to)) 0 []
-
-abbrev pub decreases-loop-i : goal.decreases-loop-i
-decreases-loop-i l = l.to - l.i
+    record_on l.kind l.leg (rows_between (row_width Timetbls) l.t l.fn.part.from l.fn.part.to)
+    ≡ get_or (kept (lies_in l.kind l.leg) (rows_between (row_width Timetbls) l.t l.i l.fn.part.to)) 0 []

@@ -1,5 +1,4 @@
 -- `stop_row` meets its contract: as many stops are passed as stand before it. Assumes nothing.
-use Prim.Native.Nat.{◌-◌}
 use mathlib.Core.Path.{◌≡◌}
 use mathlib.Core.List.{[]}
 use lib.ListN.{get_or}
@@ -13,7 +12,5 @@ use Rattle.service_rows.proofs.stop_row.Given as goal
 
 abbrev pub invariant-loop-i : goal.invariant-loop-i
 invariant-loop-i l =
-    stop_at (rows_between (row_width Timetbls) l.t l.initial.i l.to) l.number ≡ get_or (kept (λ r. is_stop (tag r)) (rows_between (row_width Timetbls) l.t l.i l.to)) l.before []
-
-abbrev pub decreases-loop-i : goal.decreases-loop-i
-decreases-loop-i l = l.to - l.i
+    stop_at (rows_between (row_width Timetbls) l.t l.fn.part.from l.fn.part.to) l.number
+    ≡ get_or (kept (λ r. is_stop (tag r)) (rows_between (row_width Timetbls) l.t l.i l.fn.part.to)) l.before []

@@ -1,12 +1,11 @@
 -- `put_answers` meets its contract: what is left to be put makes the whole. Assumes nothing.
-use Prim.Native.Nat.{◌-◌, ◌*◌, ◌≤◌}
-use mathlib.Core.Path.{◌≡◌, refl, ◌∙◌}
-use mathlib.Core.Bool.{true}
+use Prim.Native.Nat.{◌*◌, ◌≤◌}
+use mathlib.Core.Path.{refl, ◌∙◌}
 use native.Mathlib.Omega.{arith}
 use lib.ListN.{length}
 use Rattle.iff_desk.specs.Sheet.{question_width, answer_width}
 use Rattle.tables.proofs.Rows.{row_inside}
-use Rattle.sheet_lists.proofs.ListLaws.{Answering, starts, goes_on, ends}
+use Rattle.sheet_lists.proofs.ListLaws.{starts, goes_on, ends}
 use Rattle.sheet_lists.proofs.put_answers.Goals as goal
 
 pub loop-q-init : goal.loop-q-init

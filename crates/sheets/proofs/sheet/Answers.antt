@@ -21,10 +21,10 @@ fill_list-requires c =
     let lent : PerFile (List ℕ) = let a = c.args in
     eleven a.delivery.now a.company.now a.country.now a.trnsmode.now a.timezone.now a.stations.now a.footnote.now a.timetbls.now
     a.changes.now a.xfootnote.now a.xchanges.now in
-    let are_sound : sound lent ≡ true = told_sound lent _ _ c.tell_soundness.ensures _ c.in-Sound.is in (
+    let are_sound : sound lent ≡ true = told_sound lent _ _ c.tell_soundness.ensures _ c.in-Some.is in (
       leant lent are_sound,
       tested lent are_sound,
-      told_services lent _ _ c.tell_soundness.ensures _ c.in-Sound.is,
+      told_services lent _ _ c.tell_soundness.ensures _ c.in-Some.is,
     )
 
 pub returns : goal.returns
@@ -32,6 +32,6 @@ returns c =
     let lent : PerFile (List ℕ) = let a = c.args in
     eleven a.delivery.now a.company.now a.country.now a.trnsmode.now a.timezone.now a.stations.now a.footnote.now a.timetbls.now
     a.changes.now a.xfootnote.now a.xchanges.now in
-    let are_sound : sound lent ≡ true = told_sound lent _ _ c.tell_soundness.ensures _ c.in-Sound.is in
+    let are_sound : sound lent ≡ true = told_sound lent _ _ c.tell_soundness.ensures _ c.in-Some.is in
     sheeted lent c.args.questions.now c.args.answers.now are_sound _ _
     (c.fill_list.ensures (rows_of_tables lent) (own_rows lent))

@@ -8,10 +8,10 @@ pub returns-then-n-most : goal.returns-then-n-most
 returns-then-n-most c =
     let a = c.args in
     let fits : a.n ≤ a.most = omega arith in
-    rw (c.in-Fine.is, le-leb _ _ fits)
+    rw (c.in-Ok.is, le-leb _ _ fits)
 
 pub returns-else-n-most : goal.returns-else-n-most
 returns-else-n-most c =
     let a = c.args in
     let longer : a.most < a.n = omega arith in
-    rw (c.in-Fine.is, lt-leb _ _ longer)
+    rw (c.in-Ok.is, lt-leb _ _ longer)

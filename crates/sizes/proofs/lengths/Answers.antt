@@ -1,7 +1,7 @@
 -- `lengths` meets its contract: the tests of the files, in their order. Assumes nothing.
+use Rattle.std.specs.Prelude.{Ok}
 use Prim.Native.Nat.{ℕ}
 use Rattle.iff.specs.Files.{PerFile, of, eleven}
-use Rattle.iff.specs.declared.Verdict.TheVariants.{Fine}
 use Rattle.size_tests.specs.Lengths.{length_within}
 use Rattle.sizes.proofs.SizeLaws.{in_order_lem}
 use Rattle.sizes.proofs.lengths.Goals as goal
@@ -12,7 +12,7 @@ returns c =
     let L : PerFile ℕ =
     eleven a.n_delivery a.n_company a.n_country a.n_trnsmode a.n_timezone a.n_stations a.n_footnote a.n_timetbls
     a.n_changes a.n_xfootnote a.n_xchanges in
-    in_order_lem (λ f. length_within a.most f (of L f)) Fine
+    in_order_lem (λ f. length_within a.most f (of L f)) (Ok tt)
     c.length_test-v1.ensures
     c.length_test-v2.ensures
     c.length_test-v3.ensures

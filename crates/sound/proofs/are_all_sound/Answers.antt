@@ -1,4 +1,5 @@
 -- `sound::are_all_sound` meets its contract: frames, TIMETBLS, rows, DELIVERY's company. Assumes nothing.
+use Rattle.std.proofs.Common.{rules, ◌≡◌, None}
 use Prim.Native.Nat.{ℕ}
 use mathlib.Core.Path.{◌≡◌, ap, sym, ◌∙◌}
 use mathlib.Core.List.{List}
@@ -36,20 +37,21 @@ judge_blocks-requires c =
     eleven a.delivery.now a.company.now a.country.now a.trnsmode.now a.timezone.now a.stations.now a.footnote.now a.timetbls.now a.changes.now a.xfootnote.now a.xchanges.now in
     (timetbls_held tables c.requires.3, c.requires.2)
 
-pub returns-in_default : goal.returns-in_default
-returns-in_default c =
+pub returns-in_err-services : goal.returns-in_err-services
+returns-in_err-services c =
     let tables : PerFile (List ℕ) = let a = c.args in
     eleven a.delivery.now a.company.now a.country.now a.trnsmode.now a.timezone.now a.stations.now a.footnote.now a.timetbls.now a.changes.now a.xfootnote.now a.xchanges.now in
     let timetbls_is : is_right c.judge_blocks.result
     ≡ timetbls_sound (context_of (rows_of_tables tables)) c.form_of-form.result c.args.first.now
     c.args.timetbls.now = c.judge_blocks.ensures.says (context_of (rows_of_tables tables)) (block_keys_lem tables c.args.used c.requires.0) in
-    unsound tables _
+    let handed : c.from_residual.result ≡ None = search rules in
+    rw handed (unsound tables _
     (not_timetbls tables c.args.first.now c.requires.1 _ c.form_of-form.ensures c.requires.3
-    (sym timetbls_is ∙ ap is_right c.in_default.is))
+    (sym timetbls_is ∙ ap is_right c.in_err-services.was)))
 
 pub are_right_behind-requires : goal.are_right_behind-requires
 are_right_behind-requires c =
-    (c.requires.0, c.judge_blocks.ensures.rows _ _ c.in-Right.is)
+    (c.requires.0, c.judge_blocks.ensures.rows _ _ c.in_ok-services.was)
 
 pub returns-then-not-are_right_behind : goal.returns-then-not-are_right_behind
 returns-then-not-are_right_behind c =
@@ -73,7 +75,7 @@ returns-then-not-names_at c =
     ∙ ap (has (own_company a.first.now)) (keys_counted (Rows Company) a.company.now a.used.company c.requires.0.company)
     ∙ by_company tables a.first.now c.requires.1 _ c.form_of-form.ensures c.requires.3
     (sym c.are_framed.ensures ∙ not-false _ c.if-not-are_framed.false-raw)
-    (sym timetbls_is ∙ ap is_right c.in-Right.is)
+    (sym timetbls_is ∙ ap is_right c.in_ok-services.was)
     (sym (c.are_right_behind.ensures (form_is tables a.first.now c.requires.1 _ c.form_of-form.ensures c.requires.3))
     ∙ not-false _ c.if-not-are_right_behind.false-raw) in
     unsound tables _ (sym (not-true _ c.if-not-names_at.true-raw) ∙ company_is)
@@ -90,7 +92,7 @@ returns-then-asked c =
     ∙ ap (has (own_company a.first.now)) (keys_counted (Rows Company) a.company.now a.used.company c.requires.0.company)
     ∙ by_company tables a.first.now c.requires.1 _ c.form_of-form.ensures c.requires.3
     (sym c.are_framed.ensures ∙ not-false _ c.if-not-are_framed.false-raw)
-    (sym timetbls_is ∙ ap is_right c.in-Right.is)
+    (sym timetbls_is ∙ ap is_right c.in_ok-services.was)
     (sym (c.are_right_behind.ensures (form_is tables a.first.now c.requires.1 _ c.form_of-form.ensures c.requires.3))
     ∙ not-false _ c.if-not-are_right_behind.false-raw) in
     hinted tables _ (sym (not-false _ c.if-not-names_at.false-raw) ∙ company_is)
@@ -107,11 +109,11 @@ returns c =
     ∙ ap (has (own_company a.first.now)) (keys_counted (Rows Company) a.company.now a.used.company c.requires.0.company)
     ∙ by_company tables a.first.now c.requires.1 _ c.form_of-form.ensures c.requires.3
     (sym c.are_framed.ensures ∙ not-false _ c.if-not-are_framed.false-raw)
-    (sym timetbls_is ∙ ap is_right c.in-Right.is)
+    (sym timetbls_is ∙ ap is_right c.in_ok-services.was)
     (sym (c.are_right_behind.ensures (form_is tables a.first.now c.requires.1 _ c.form_of-form.ensures c.requires.3))
     ∙ not-false _ c.if-not-are_right_behind.false-raw) in
     indexed tables _ (sym (not-false _ c.if-not-names_at.false-raw) ∙ company_is) _ _ (c.index_in_rows-asked.ensures.1 c.if-asked.false)
-    (c.judge_blocks.ensures.index _ _ c.in-Right.is)
+    (c.judge_blocks.ensures.index _ _ c.in_ok-services.was)
 
 pub bounds-first-1 : goal.bounds-first-1
 bounds-first-1 c = omega (arith, c.requires.2)

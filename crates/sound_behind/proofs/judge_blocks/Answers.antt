@@ -1,17 +1,18 @@
 -- `sound_behind::judge_blocks` meets its contract: the first line's tag, the blocks with their services, unused places, then the rest of the frame.
 -- Assumes nothing.
+use Rattle.std.proofs.Common.{rules, ◌≡◌, None}
 use mathlib.Core.Path.{◌≡◌, refl, ap, sym, ◌∙◌}
-use mathlib.Core.Bool.{true, ◌&&◌}
+use mathlib.Core.Bool.{◌&&◌}
 use native.Mathlib.Omega.{arith}
 use borrow.Author.Tests.{not-true, not-false}
-use lib.ListN.{length, drop}
+use lib.ListN.{length}
 use Rattle.iff.specs.Bytes.{at}
-use Rattle.iff.specs.Tables.{tag, row_at, row_width, rows_in, all_zero, rising}
+use Rattle.iff.specs.Tables.{tag, row_at, row_width, rows_in, rising}
 use Rattle.iff.specs.declared.File.TheVariants.{Timetbls}
 use Rattle.iff_rules.specs.Rows.{Context}
 use Rattle.references.specs.Agree.{BlockKeysAmong}
 use Rattle.walks.proofs.TableLaws.{inside, tag_first}
-use Rattle.sound_timetbls.specs.Told.{are_sound, BlocksTold}
+use Rattle.sound_timetbls.specs.Told.{are_sound}
 use Rattle.sound_frames.specs.Frames.{framed}
 use Rattle.sound_frames.proofs.FrameLaws.{no_key, not_first, not_zero}
 use Rattle.sound_behind.specs.Behind.{behind}
@@ -34,26 +35,27 @@ are_blocks_sound-requires c =
     sym (tag_first Timetbls a.t.now) ∙ sym c.word_or_zero.ensures ∙ c.if-word_or_zero-ne-AT.false in
     (omega (arith, c.requires.0), no_key Timetbls _ first_tag)
 
-pub returns-in_default : goal.returns-in_default
-returns-in_default c =
+pub returns-in_err-blocks : goal.returns-in_err-blocks
+returns-in_err-blocks c =
     let first_tag : tag (row_at (row_width Timetbls) c.args.t.now 0) ≡ at = let a = c.args in
     sym (tag_first Timetbls a.t.now) ∙ sym c.word_or_zero.ensures ∙ c.if-word_or_zero-ne-AT.false in
     let a = c.args in
-    wrong _ _ _ _ _ a.form a.delivery.now a.t.now _
+    let handed : c.from_residual.result ≡ None = search rules in
+    rw handed (wrong _ _ _ _ _ a.form a.delivery.now a.t.now _
     (λ x agree.
     blocks_refused a.t.now (length (rows_in Timetbls a.t.now)) refl c.requires.0 a.form a.delivery.now x first_tag
-    (sym (ap are_sound c.in_default.is) ∙ c.are_blocks_sound.ensures.0.says x agree))
+    (sym (ap are_sound c.in_err-blocks.was) ∙ c.are_blocks_sound.ensures.0.says x agree)))
 
-pub overflow_mul-used : goal.overflow_mul-used
-overflow_mul-used c =
+pub overflow_mul-blocks : goal.overflow_mul-blocks
+overflow_mul-blocks c =
     let a = c.args in
-    let n = c.are_blocks_sound.ensures.0.rows _ _ _ c.in-Sound.is in
+    let n = c.are_blocks_sound.ensures.0.rows _ _ _ c.in_ok-blocks.was in
     omega (arith, inside Timetbls a.t.now _ n, c.well_formed)
 
 pub returns-then-not-zero_from : goal.returns-then-not-zero_from
 returns-then-not-zero_from c =
     let a = c.args in
-    let n = c.are_blocks_sound.ensures.0.rows _ _ _ c.in-Sound.is in
+    let n = c.are_blocks_sound.ensures.0.rows _ _ _ c.in_ok-blocks.was in
     wrong _ _ _ _ _ a.form a.delivery.now a.t.now _
     (λ x agree.
     frame_refused a.t.now _ n (some_rows_told _ _ n c.requires.0) a.form a.delivery.now x
@@ -61,7 +63,7 @@ returns-then-not-zero_from c =
 
 pub are_rows_framed_by-requires : goal.are_rows_framed_by-requires
 are_rows_framed_by-requires c =
-    let n = c.are_blocks_sound.ensures.0.rows _ _ _ c.in-Sound.is in
+    let n = c.are_blocks_sound.ensures.0.rows _ _ _ c.in_ok-blocks.was in
     (some_rows_told _ _ n c.requires.0, n, c.requires.1)
 
 pub returns-then-not-are_rows_framed_by : goal.returns-then-not-are_rows_framed_by
@@ -76,7 +78,7 @@ returns-then-not-are_rows_framed_by c =
     c.args.t.now
     && behind x Timetbls (rows_in Timetbls c.args.t.now)) = λ x agree. let a = c.args in
     let q = first_tag in
-    let is = c.in-Sound.is in
+    let is = c.in_ok-blocks.was in
     let n = c.are_blocks_sound.ensures.0.rows _ _ _ is in
     let some = some_rows_told _ _ n c.requires.0 in
     let told = by_number _ _ _ _ _ a.t.now _ _ n _ _ c.are_blocks_sound.ensures.0 in
@@ -100,7 +102,7 @@ returns c =
     c.args.t.now
     && behind x Timetbls (rows_in Timetbls c.args.t.now)) = λ x agree. let a = c.args in
     let q = first_tag in
-    let is = c.in-Sound.is in
+    let is = c.in_ok-blocks.was in
     let n = c.are_blocks_sound.ensures.0.rows _ _ _ is in
     let some = some_rows_told _ _ n c.requires.0 in
     let told = by_number _ _ _ _ _ a.t.now _ _ n _ _ c.are_blocks_sound.ensures.0 in
@@ -110,7 +112,7 @@ returns c =
     (told.rise _ _ _ is ∙ ap rising (services_are a.t.now _ n some a.form a.delivery.now x q))
     ∙ by_frame a.t.now _ n some a.form a.delivery.now x q y (sym c.zero_from.ensures ∙ not-false _ c.if-not-zero_from.false-raw) in
     let a = c.args in
-    let is = c.in-Sound.is in
+    let is = c.in_ok-blocks.was in
     right _ _ _ _ _ a.form a.delivery.now a.t.now _ _ _
     (c.are_blocks_sound.ensures.0.rows _ _ _ is)
     (c.are_blocks_sound.ensures.0.index _ _ _ is)

@@ -10,7 +10,7 @@ use borrow.Author.Tests.{eq-eqb, ne_eqb, not-true, not-false}
 use Rattle.iff.specs.Words.{rises}
 use Rattle.iff_rules.specs.Rows.{flag}
 use Rattle.tables.proofs.Widths.{widths}
-use Rattle.sound_firsts.proofs.FirstLaws.{five_words, kept_shape, first_by}
+use Rattle.sound_firsts.proofs.FirstLaws.{five_words, kept_shape, words_differ, words_same, first_by}
 use Rattle.sound_firsts.proofs.is_first_sound.Goals as goal
 
 pub returns-then-row-ne-AT : goal.returns-then-row-ne-AT
@@ -42,15 +42,15 @@ returns-then-not-first_means c later u =
     (sym (c.is_shaped.ensures ∙ kept_shape _ a.row.now (omega arith)) ∙ not-false _ c.if-not-is_shaped.false-raw)
     (sym c.first_means.ensures ∙ not-true _ c.if-not-first_means.true-raw) refl refl refl refl
 
-pub returns-then-not-same_words : goal.returns-then-not-same_words
-returns-then-not-same_words c later u =
+pub returns-then-ne : goal.returns-then-ne
+returns-then-ne c later u =
     let wide : 6 ≤ length c.args.row.now = omega (arith, (widths c.args.file).wide, c.requires.0) in
     let a = c.args in
     let w = wide in
     first_by a.file a.delivery.now a.row.now later true true true false _ _ false (eq-eqb _ _ c.if-row-ne-AT.false)
     (sym (c.is_shaped.ensures ∙ kept_shape _ a.row.now (omega arith)) ∙ not-false _ c.if-not-is_shaped.false-raw)
     (sym c.first_means.ensures ∙ not-false _ c.if-not-first_means.false-raw)
-    (sym c.same_words.ensures ∙ not-true _ c.if-not-same_words.true-raw) refl refl refl
+    (words_differ _ _ _ c.ne.ensures c.if-ne.true) refl refl refl
 
 pub returns-then-not-is_flag : goal.returns-then-not-is_flag
 returns-then-not-is_flag c later u =
@@ -60,7 +60,7 @@ returns-then-not-is_flag c later u =
     first_by a.file a.delivery.now a.row.now later true true true true false _ false (eq-eqb _ _ c.if-row-ne-AT.false)
     (sym (c.is_shaped.ensures ∙ kept_shape _ a.row.now (omega arith)) ∙ not-false _ c.if-not-is_shaped.false-raw)
     (sym c.first_means.ensures ∙ not-false _ c.if-not-first_means.false-raw)
-    (sym c.same_words.ensures ∙ not-false _ c.if-not-same_words.false-raw)
+    (words_same _ _ _ c.ne.ensures c.if-ne.false)
     (sym (c.is_flag.ensures ∙ ap (λ b. eqb (rises a.row.now) (flag b)) u) ∙ not-true _ c.if-not-is_flag.true-raw) refl refl
 
 pub returns : goal.returns
@@ -71,7 +71,7 @@ returns c later u =
     first_by a.file a.delivery.now a.row.now later true true true true true _ _ (eq-eqb _ _ c.if-row-ne-AT.false)
     (sym (c.is_shaped.ensures ∙ kept_shape _ a.row.now (omega arith)) ∙ not-false _ c.if-not-is_shaped.false-raw)
     (sym c.first_means.ensures ∙ not-false _ c.if-not-first_means.false-raw)
-    (sym c.same_words.ensures ∙ not-false _ c.if-not-same_words.false-raw)
+    (words_same _ _ _ c.ne.ensures c.if-ne.false)
     (sym (c.is_flag.ensures ∙ ap (λ b. eqb (rises a.row.now) (flag b)) u) ∙ not-false _ c.if-not-is_flag.false-raw)
     refl c.is_right_behind.ensures
 
@@ -92,15 +92,15 @@ first_means-requires c =
     let wide : 6 ≤ length c.args.row.now = omega (arith, (widths c.args.file).wide, c.requires.0) in
     omega (arith, wide)
 
-pub slice_bounds-same_words-end : goal.slice_bounds-same_words-end
-slice_bounds-same_words-end c =
+pub slice_bounds-ne-end : goal.slice_bounds-ne-end
+slice_bounds-ne-end c =
     let wide : 6 ≤ length c.args.row.now = omega (arith, (widths c.args.file).wide, c.requires.0) in
     let kept_words : 5 ≡ length (take 5 c.args.row.now) = let w = wide in
     sym (length-take-le 5 c.args.row.now (omega arith)) in
     kept_words
 
-pub slice_bounds-same_words-end-2 : goal.slice_bounds-same_words-end-2
-slice_bounds-same_words-end-2 c = sym (length-take-le 5 c.args.delivery.now c.requires.1)
+pub slice_bounds-ne-end-2 : goal.slice_bounds-ne-end-2
+slice_bounds-ne-end-2 c = sym (length-take-le 5 c.args.delivery.now c.requires.1)
 
 pub bounds-row-5 : goal.bounds-row-5
 bounds-row-5 c =

@@ -1,8 +1,8 @@
 -- `index_service` meets its contract. Assumes nothing.
+use Rattle.std.specs.Prelude.{Some}
 use mathlib.Core.Path.{refl, ap, ◌∙◌}
 use native.Mathlib.Omega.{arith}
 use Rattle.fresh_keys.specs.Runs.{step_run}
-use Rattle.index.specs.declared.Next.TheVariants.{Goes}
 use Rattle.sound_services.proofs.index_service.Goals as goal
 
 pub index_row-requires : goal.index_row-requires
@@ -26,5 +26,5 @@ returns c =
     record {
       wide = refl;
       put = λ f. absurd (omega (arith, c.if-done-lt-INDEXED.false));
-      gone = λ f. ap Goes (c.next_run.ensures ∙ ap (step_run a.run) c.word_at-service.ensures);
+      gone = λ f. ap Some (c.next_run.ensures ∙ ap (step_run a.run) c.word_at-service.ensures);
     }

@@ -1,5 +1,6 @@
 -- `are_blocks_sound` meets its contract: what is left of the blocks is the whole, and the services before them are in the index, while that has not
 -- enough. Assumes nothing.
+use Rattle.std.proofs.Common.{rules, ◌≡◌, None}
 use Prim.Native.Nat.{◌≤◌, ◌<◌}
 use mathlib.Core.Path.{◌≡◌, refl, ap, sym, ◌∙◌}
 use mathlib.Core.Bool.{true}
@@ -57,16 +58,17 @@ test_block-requires c =
     c.if-tag-eq0.false in
     record { some = in_use_lem; inside = inside Timetbls c.args.t.now _ refl }
 
-pub returns-in_default : goal.returns-in_default
-returns-in_default c =
+pub returns-in_err-end : goal.returns-in_err-end
+returns-in_err-end c =
     let in_use_lem : c.loop-i.i < used_in c.args.t.now = row_used c.args.t.now c.loop-i.i c.loop-i.invariant.left.high c.loop-i-test.true _ c.word_at-tag.ensures
     c.if-tag-eq0.false in
     let is_head : is_hash_row (row_at (row_width Timetbls) c.args.t.now c.loop-i.i) ≡ true = sym (ap (λ k. eqb k hash) c.word_at-tag.ensures) ∙ eq-eqb _ hash c.if-tag-ne-HASH.false in
-    let a = c.args in (
+    let handed : c.from_residual.result ≡ None = search rules in
+    rw handed (let a = c.args in (
       block_unsound _ _ _ _ _ a.t.now _ a.places.now c.loop-i.done c.loop-i.run c.loop-i.i c.loop-i.places c.loop-i.invariant in_use_lem
-          is_head _ c.test_block.ensures c.in_default.is,
+          is_head _ c.test_block.ensures c.in_err-end.was,
       c.loop-i.invariant.wide,
-    )
+    ))
 
 pub index_service-requires : goal.index_service-requires
 index_service-requires c =
@@ -76,14 +78,15 @@ index_service-requires c =
     service_at _ _ _ _ _ a.t.now _ a.places.now c.loop-i.done c.loop-i.run c.loop-i.i c.loop-i.places c.loop-i.invariant in_use_lem
     c.requires.1
 
-pub returns-in_default-index_service : goal.returns-in_default-index_service
-returns-in_default-index_service c =
+pub returns-in_err-run : goal.returns-in_err-run
+returns-in_err-run c =
     let in_use_lem : c.loop-i.i < used_in c.args.t.now = row_used c.args.t.now c.loop-i.i c.loop-i.invariant.left.high c.loop-i-test.true _ c.word_at-tag.ensures
     c.if-tag-eq0.false in
     let is_head : is_hash_row (row_at (row_width Timetbls) c.args.t.now c.loop-i.i) ≡ true = sym (ap (λ k. eqb k hash) c.word_at-tag.ensures) ∙ eq-eqb _ hash c.if-tag-ne-HASH.false in
     let a = c.args in
-    service_came _ _ _ _ _ a.t.now _ a.places.now c.loop-i.done c.loop-i.run c.loop-i.i c.loop-i.places c.loop-i.invariant in_use_lem
-    is_head _ c.test_block.ensures _ c.in-Sound.is _ _ c.index_service.ensures c.in_default-index_service.is
+    let handed : c.from_residual-in_err-run.result ≡ None = search rules in
+    rw handed (service_came _ _ _ _ _ a.t.now _ a.places.now c.loop-i.done c.loop-i.run c.loop-i.i c.loop-i.places c.loop-i.invariant in_use_lem
+    is_head _ c.test_block.ensures _ c.in_ok-end.was _ _ c.index_service.ensures c.in_err-run.was)
 
 pub overflow_add-done : goal.overflow_add-done
 overflow_add-done c =
@@ -96,7 +99,7 @@ loop-i-smaller c =
     let is_head : is_hash_row (row_at (row_width Timetbls) c.args.t.now c.loop-i.i) ≡ true = sym (ap (λ k. eqb k hash) c.word_at-tag.ensures) ∙ eq-eqb _ hash c.if-tag-ne-HASH.false in
     let a = c.args in
     let more = rises _ _ _ _ _ a.t.now _ c.loop-i.i c.loop-i.invariant.left in_use_lem is_head _ c.test_block.ensures _
-    c.in-Sound.is in
+    c.in_ok-end.was in
     omega (arith, more, c.loop-i-test.true)
 
 pub loop-i-preserved : goal.loop-i-preserved
@@ -106,7 +109,7 @@ loop-i-preserved c =
     let is_head : is_hash_row (row_at (row_width Timetbls) c.args.t.now c.loop-i.i) ≡ true = sym (ap (λ k. eqb k hash) c.word_at-tag.ensures) ∙ eq-eqb _ hash c.if-tag-ne-HASH.false in
     let a = c.args in
     going_on _ _ _ _ _ a.t.now _ a.places.now c.loop-i.done c.loop-i.run c.loop-i.i c.loop-i.places c.loop-i.invariant in_use_lem
-    is_head _ c.test_block.ensures _ c.in-Sound.is _ _ c.index_service.ensures _ c.in-Goes.is
+    is_head _ c.test_block.ensures _ c.in_ok-end.was _ _ c.index_service.ensures _ c.in_ok-run.was
 
 pub tell_services-requires-2 : goal.tell_services-requires-2
 tell_services-requires-2 c =

@@ -9,28 +9,28 @@ use Rattle.station_names.specs.Names.{name_from, name_part}
 use Rattle.parts.proofs.SeekLaws.{wants_station}
 use Rattle.station_names.proofs.name_part.Goals as goal
 
-pub returns-in-From : goal.returns-in-From
+pub returns-in-Some : goal.returns-in-Some
 unfolding name_part
-returns-in-From c =
+returns-in-Some c =
     let is_part : name_from c.seek_after.result ≡ name_part c.args.stations.now c.args.short = let a = c.args in
     ap name_from (c.seek_after.ensures.is ∙ ap (λ p. seek_after p 0 (lines a.stations.now)) (wants_station a.short)) in
-    let inside : c.in-From.i + 73 ≤ length c.args.stations.now = (rw c.in-From.is at c.seek_after.ensures.within).1 in
-    (ap name_from (sym c.in-From.is) ∙ is_part, record { low = omega arith; high = inside })
+    let inside : c.in-Some.i + 73 ≤ length c.args.stations.now = (rw c.in-Some.is at c.seek_after.ensures.within).1 in
+    (ap name_from (sym c.in-Some.is) ∙ is_part, record { low = omega arith; high = inside })
 
-pub returns-in-NotFound : goal.returns-in-NotFound
+pub returns-in-None : goal.returns-in-None
 unfolding name_part
-returns-in-NotFound c =
+returns-in-None c =
     let is_part : name_from c.seek_after.result ≡ name_part c.args.stations.now c.args.short = let a = c.args in
     ap name_from (c.seek_after.ensures.is ∙ ap (λ p. seek_after p 0 (lines a.stations.now)) (wants_station a.short)) in
     let none = c.no_part.ensures in
-    (none ∙ ap name_from (sym c.in-NotFound.is) ∙ is_part, rw none (record { low = omega arith; high = omega arith }))
+    (none ∙ ap name_from (sym c.in-None.is) ∙ is_part, rw none (record { low = omega arith; high = omega arith }))
 
 pub overflow_add-from : goal.overflow_add-from
 overflow_add-from c =
-    let inside : c.in-From.i + 73 ≤ length c.args.stations.now = (rw c.in-From.is at c.seek_after.ensures.within).1 in
+    let inside : c.in-Some.i + 73 ≤ length c.args.stations.now = (rw c.in-Some.is at c.seek_after.ensures.within).1 in
     omega (arith, inside)
 
 pub overflow_add-to : goal.overflow_add-to
 overflow_add-to c =
-    let inside : c.in-From.i + 73 ≤ length c.args.stations.now = (rw c.in-From.is at c.seek_after.ensures.within).1 in
+    let inside : c.in-Some.i + 73 ≤ length c.args.stations.now = (rw c.in-Some.is at c.seek_after.ensures.within).1 in
     omega (arith, inside)

@@ -19,9 +19,9 @@ returns-in_default c R z s =
 pub returns-in_default-departure_on : goal.returns-in_default-departure_on
 returns-in_default-departure_on c R z s =
     no_departure R _ _ _ _ c.word_of-station.ensures c.day_number-number.ensures.0 _ _ (c.arrival_on.ensures.is R z s)
-    (c.departure_on.ensures.is R z s) _ c.in-Told.is c.in_default-departure_on.is
+    (c.departure_on.ensures.is R z s) _ c.in-Some.is c.in_default-departure_on.is
 
 pub returns : goal.returns
 returns c R z s =
     both_told R _ _ _ _ c.word_of-station.ensures c.day_number-number.ensures.0 _ _ (c.arrival_on.ensures.is R z s)
-    (c.departure_on.ensures.is R z s) _ _ c.in-Told.is c.in-Told-departure_on.is
+    (c.departure_on.ensures.is R z s) _ _ c.in-Some.is c.in-Some-departure_on.is

@@ -13,7 +13,7 @@ pub word_at-lines-requires : goal.word_at-lines-requires
 word_at-lines-requires c =
     let a = c.args in (
       omega arith,
-      row_inside _ _ a.used _ (found_inside _ a.used a.t.now c.requires.0 a.key _ c.find_at.ensures _ c.in-Row.is)
+      row_inside _ _ a.used _ (found_inside _ a.used a.t.now c.requires.0 a.key _ c.find_at.ensures _ c.in-Some.is)
           (used_fits _ a.used a.t.now c.requires.0),
     )
 
@@ -22,11 +22,11 @@ overflow_add-to c =
     let a = c.args in
     omega (
       arith,
-      block_fits a.used a.t.now c.requires.0 a.key _ c.find_at.ensures _ c.in-Row.is c.requires.1 _ c.word_at-lines.ensures,
+      block_fits a.used a.t.now c.requires.0 a.key _ c.find_at.ensures _ c.in-Some.is c.requires.1 _ c.word_at-lines.ensures,
       c.well_formed,
     )
 
 pub returns : goal.returns
 returns c =
     let a = c.args in
-    block_found a.used a.t.now c.requires.0 a.key _ c.find_at.ensures _ c.in-Row.is c.requires.1 _ c.word_at-lines.ensures
+    block_found a.used a.t.now c.requires.0 a.key _ c.find_at.ensures _ c.in-Some.is c.requires.1 _ c.word_at-lines.ensures

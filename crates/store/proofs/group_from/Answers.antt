@@ -5,18 +5,18 @@ use Rattle.store.proofs.group_from.Goals as goal
 
 pub overflow_add-i : goal.overflow_add-i
 overflow_add-i c =
-    omega (arith, c.requires.2 _ c.in-Row.is, c.well_formed)
+    omega (arith, c.requires.2 _ c.in-Some.is, c.well_formed)
 
 pub next_head-requires : goal.next_head-requires
 next_head-requires c =
-    let i = c.requires.2 _ c.in-Row.is in
+    let i = c.requires.2 _ c.in-Some.is in
     (c.row_width-w.ensures.some, omega arith, rw c.row_width-w.ensures.is (used_fits _ _ _ c.requires.0))
 
-pub returns-in-Row : goal.returns-in-Row
-returns-in-Row c key found =
-    group_found c.args.file c.args.used c.args.t.now c.requires.0 key c.requires.1 c.args.row found _ c.in-Row.is _
+pub returns-in-Some : goal.returns-in-Some
+returns-in-Some c key found =
+    group_found c.args.file c.args.used c.args.t.now c.requires.0 key c.requires.1 c.args.row found _ c.in-Some.is _
     c.next_head.result c.row_width-w.ensures.is c.next_head.ensures
 
-pub returns-in-NoRow : goal.returns-in-NoRow
-returns-in-NoRow c key found =
-    group_none c.args.file c.args.used c.args.t.now c.requires.0 key c.requires.1 c.args.row found c.in-NoRow.is
+pub returns-in-None : goal.returns-in-None
+returns-in-None c key found =
+    group_none c.args.file c.args.used c.args.t.now c.requires.0 key c.requires.1 c.args.row found c.in-None.is

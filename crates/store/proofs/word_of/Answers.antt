@@ -3,7 +3,7 @@ use Rattle.store.proofs.word_of.Goals as goal
 
 pub word_at-requires : goal.word_at-requires
 word_at-requires c =
-    (c.requires.0, c.requires.1 _ c.in-Row.is)
+    (c.requires.0, c.requires.1 _ c.in-Some.is)
 
-pub returns-in-Row : goal.returns-in-Row
-returns-in-Row c = rw c.in-Row.is c.word_at.ensures
+pub returns-in-Some : goal.returns-in-Some
+returns-in-Some c = rw c.in-Some.is c.word_at.ensures

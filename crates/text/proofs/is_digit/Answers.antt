@@ -1,12 +1,8 @@
 -- `text::is_digit` meets its contract. Assumes nothing.
-use borrow.Author.Tests.{le-leb, lt-leb}
+use borrow.Author.Rules.{rules}
 use Rattle.iff.specs.Bytes.{digit}
 use Rattle.text.proofs.is_digit.Goals as goal
 
-pub returns-then-b-ge48 : goal.returns-then-b-ge48
+pub returns : goal.returns
 unfolding digit
-returns-then-b-ge48 c = simp (le-leb _ _ c.if-b-ge48.true)
-
-pub returns-else-b-ge48 : goal.returns-else-b-ge48
-unfolding digit
-returns-else-b-ge48 c = simp (lt-leb _ _ c.if-b-ge48.false)
+returns c = search rules

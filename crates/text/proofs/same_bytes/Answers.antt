@@ -1,23 +1,8 @@
--- `text::same_bytes` meets its contract: an instance of the laws of one test over two lists. Assumes nothing.
-use mathlib.Core.Path.{sym}
-use borrow.Author.Rules.{rules}
-use borrow.Author.Tests.{eq-eqb, ne_eqb}
-use Rattle.text.proofs.PictureLaws.{unequal, begins, fails, passes, ended}
+-- `text::same_bytes` meets its contract: std's test of two slices is the definition's. Assumes nothing.
+use mathlib.Core.Path.{◌∙◌}
+use lib.Dec.{eqb}
+use Rattle.text.proofs.PictureLaws.{all2_is}
 use Rattle.text.proofs.same_bytes.Goals as goal
 
-pub returns-then-a-b : goal.returns-then-a-b
-returns-then-a-b c = sym (unequal _ _ _ c.if-a-b.true)
-
-pub loop-bytes_left-init : goal.loop-bytes_left-init
-loop-bytes_left-init c = begins _ _ _ c.if-a-b.false
-
-pub returns-then-a-i : goal.returns-then-a-i
-returns-then-a-i c =
-    fails _ _ _ _ (search rules) (ne_eqb _ _ c.if-a-i.true) c.loop-bytes_left.invariant
-
-pub loop-bytes_left-preserved : goal.loop-bytes_left-preserved
-loop-bytes_left-preserved c =
-    passes _ _ _ _ (search rules) (eq-eqb _ _ c.if-a-i.false) c.loop-bytes_left.invariant
-
 pub returns : goal.returns
-returns c = ended _ _ _ _ (search rules) c.loop-bytes_left.invariant
+returns c = c.eq.ensures ∙ all2_is eqb c.args.a.now c.args.b.now

@@ -1,13 +1,14 @@
--- `text_numbers::text_number` meets its contract: what is left, counted behind the number so far, is the whole. Assumes nothing.
-use Rattle.text_numbers.proofs.NumberLaws.{numbered_none, numbered_next, numbered_all}
+-- `text_numbers::text_number` meets its contract: a text's number is counted byte by byte. Assumes nothing.
+use mathlib.Core.Path.{◌∙◌}
+use borrow.Author.Rules.{rules}
+use Rattle.std.proofs.lemmas.Iterator.{YieldsList-from_slice}
+use Rattle.std.proofs.lemmas.Iterator.Consumers.{fold_from_yields_List}
+use Rattle.text_numbers.specs.Numbers.{next_number}
+use Rattle.text_numbers.proofs.NumberLaws.{byte_by_byte}
 use Rattle.text_numbers.proofs.text_number.Goals as goal
 
-pub loop-i-preserved : goal.loop-i-preserved
-loop-i-preserved c =
-    numbered_next _ _ _ _ c.loop-i-test.true c.next_number-number.ensures c.loop-i.invariant
-
 pub returns : goal.returns
-returns c = numbered_all _ _ _ c.loop-i-test.false c.loop-i.invariant
-
-pub loop-i-init : goal.loop-i-init
-loop-i-init c = numbered_none _
+returns c =
+    let text = c.args.text.now in
+    fold_from_yields_List _ next_number 0 _ c.fold.ensures.ran (YieldsList-from_slice text cc) (λ a x b q k. search rules)
+    ∙ byte_by_byte text 0

@@ -1,9 +1,7 @@
-use Rattle.std.proofs.Common.{◌-◌}
-use Rattle.text_puts.proofs.TextLaws.{Putting}
+-- The bytes put so far are the front of the text.
+use Rattle.std.proofs.Common.{take}
+use Rattle.text_puts.specs.Texts.{Appended}
 use Rattle.text_puts.proofs.put_bytes.Given as goal
 
-abbrev pub invariant-loop-i : goal.invariant-loop-i
-invariant-loop-i l = Putting l.initial.out l.at l.text l.n l.out l.to l.i
-
-abbrev pub decreases-loop-i : goal.decreases-loop-i
-decreases-loop-i l = l.n - l.i
+abbrev pub invariant-loop-b : goal.invariant-loop-b
+invariant-loop-b l = Appended l.initial.out l.at (take l.b-index l.text) l.out l.to

@@ -8,15 +8,15 @@ use Rattle.timetbls.proofs.read_blocks.Goals as goal
 
 pub walk_blocks-requires : goal.walk_blocks-requires
 walk_blocks-requires c =
-    blocks_ready _ _ _ c.requires _ c.stray_test.ensures c.in-Passes.is _ none_marked
+    blocks_ready _ _ _ c.requires _ c.stray_test.ensures c.in-Ok.is _ none_marked
 
-pub returns-in-Fails : goal.returns-in-Fails
-returns-in-Fails c =
-    read_stray _ _ _ _ _ _ _ _ _ c.stray_test.ensures _ c.in-Fails.is
+pub returns-in-Err : goal.returns-in-Err
+returns-in-Err c =
+    read_stray _ _ _ _ _ _ _ _ _ c.stray_test.ensures _ c.in-Err.is
 
-pub returns-in-Passes : goal.returns-in-Passes
-returns-in-Passes c =
-    read_all _ _ _ _ _ _ _ _ _ c.stray_test.ensures c.in-Passes.is _ c.count_for_blocks-counts.ensures
+pub returns-in-Ok : goal.returns-in-Ok
+returns-in-Ok c =
+    read_all _ _ _ _ _ _ _ _ _ c.stray_test.ensures c.in-Ok.is _ c.count_for_blocks-counts.ensures
     _ _ c.walk_blocks.ensures c.walk_blocks.auto.t
 
 pub slice_bounds-walk_blocks-end : goal.slice_bounds-walk_blocks-end

@@ -5,28 +5,28 @@ use Rattle.iff_desk.specs.Changing.{better}
 use Rattle.verdicts.proofs.BestLaws.{higher_wins, lower_loses, longer_wins, shorter_loses}
 use Rattle.verdicts.proofs.better.Goals as goal
 
-pub returns-then-highest-rank : goal.returns-then-highest-rank
-returns-then-highest-rank c =
+pub returns-then-best-rank : goal.returns-then-best-rank
+returns-then-best-rank c =
     let a = c.args in
-    rw c.in-BestRow.is (sym (higher_wins c.in-BestRow.highest c.in-BestRow.longest a.rank a.time (omega arith)))
+    rw c.in-Some.is (sym (higher_wins c.in-Some.best.rank c.in-Some.best.time a.rank a.time (omega arith)))
 
-pub returns-then-rank-highest : goal.returns-then-rank-highest
-returns-then-rank-highest c =
+pub returns-then-rank-best : goal.returns-then-rank-best
+returns-then-rank-best c =
     let a = c.args in
-    rw c.in-BestRow.is (sym (lower_loses c.in-BestRow.highest c.in-BestRow.longest a.rank a.time (omega arith)))
+    rw c.in-Some.is (sym (lower_loses c.in-Some.best.rank c.in-Some.best.time a.rank a.time (omega arith)))
 
-pub returns-then-longest-time : goal.returns-then-longest-time
-returns-then-longest-time c =
+pub returns-then-best-time : goal.returns-then-best-time
+returns-then-best-time c =
     let a = c.args in
-    rw c.in-BestRow.is
-    (sym (longer_wins c.in-BestRow.highest c.in-BestRow.longest a.rank a.time (omega arith) (omega arith)))
+    rw c.in-Some.is
+    (sym (longer_wins c.in-Some.best.rank c.in-Some.best.time a.rank a.time (omega arith) (omega arith)))
 
-pub returns-in-NoBest : goal.returns-in-NoBest
+pub returns-in-None : goal.returns-in-None
 unfolding better
-returns-in-NoBest c = rw c.in-NoBest.is
+returns-in-None c = rw c.in-None.is
 
-pub returns-else-longest-time : goal.returns-else-longest-time
-returns-else-longest-time c =
+pub returns-else-best-time : goal.returns-else-best-time
+returns-else-best-time c =
     let a = c.args in
-    rw c.in-BestRow.is
-    (sym (shorter_loses c.in-BestRow.highest c.in-BestRow.longest a.rank a.time (omega arith) (omega arith)))
+    rw c.in-Some.is
+    (sym (shorter_loses c.in-Some.best.rank c.in-Some.best.time a.rank a.time (omega arith) (omega arith)))

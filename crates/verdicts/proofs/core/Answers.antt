@@ -8,22 +8,22 @@ use Rattle.verdicts.proofs.core.Goals as goal
 pub returns-then-p-eq0 : goal.returns-then-p-eq0
 returns-then-p-eq0 c =
     let a = c.args in
-    rw (to_z-of_z c.ranges.gap, c.in-Possibility.is) (pair_bars a.gap a.flag a.best a.time c.in-Possibility.p (omega (arith, c.if-p-eq0.true)))
+    rw (to_z-of_z c.ranges.gap, c.in-Some.is) (pair_bars a.gap a.flag a.best a.time c.in-Some.p (omega (arith, c.if-p-eq0.true)))
 
 pub returns-then-flag-eq0 : goal.returns-then-flag-eq0
 returns-then-flag-eq0 c =
     let a = c.args in
-    rw (to_z-of_z c.ranges.gap, c.in-NoPair.is) (flag_bars a.gap a.flag a.best a.time (omega (arith, c.if-flag-eq0.true)))
+    rw (to_z-of_z c.ranges.gap, c.in-None.is) (flag_bars a.gap a.flag a.best a.time (omega (arith, c.if-flag-eq0.true)))
 
 pub returns-else-p-eq0 : goal.returns-else-p-eq0
 returns-else-p-eq0 c =
     let a = c.args in
-    rw c.in-Possibility.is
+    rw c.in-Some.is
     (c.settled.ensures
-    ∙ rw (to_z-of_z c.ranges.gap) (pair_there a.gap a.flag a.best a.time c.in-Possibility.p c.if-p-eq0.false))
+    ∙ rw (to_z-of_z c.ranges.gap) (pair_there a.gap a.flag a.best a.time c.in-Some.p c.if-p-eq0.false))
 
 pub returns-else-flag-eq0 : goal.returns-else-flag-eq0
 returns-else-flag-eq0 c =
     let a = c.args in
-    rw c.in-NoPair.is
+    rw c.in-None.is
     (c.by_time.ensures ∙ rw (to_z-of_z c.ranges.gap) (by_needed a.gap a.flag a.best a.time c.if-flag-eq0.false))
