@@ -20,7 +20,7 @@ wide = row_width Timetbls
 abbrev pub services : List Row → ℕ
 services rs = length (keys_of Timetbls rs)
 
-one_small : (b : Bool) → cond b 1 0 ≤ 1
+pub one_small : (b : Bool) → cond b 1 0 ≤ 1
 one_small true = omega arith
 one_small false = omega arith
 

@@ -114,27 +114,6 @@ pub record Counting (t : List ℕ) (last i n : ℕ) : Type 0 where
   pub few : n ≤ i
   pub left : n + ends (drop i t) ≡ ends t
 
-pub counts_on : (t : List ℕ) (last i n j m : ℕ) → Counting t last i n → j ≡ i + 240 → j ≤ last
-    → m + ends (drop j t) ≡ ends (drop i t) → m ≤ 240 → Counting t last j (n + m)
-counts_on t last i n j m c e h f g = record { high = h; few = omega (arith, c); left = omega (arith, c) }
-
--- all runs done
-pub record Counted (t : List ℕ) (last n : ℕ) : Type 0 where
-  pub few : n ≤ last + 240
-  pub left : n + ends (drop last t) ≡ ends t
-
-pub none_left : (t : List ℕ) (last i n all : ℕ) → Counting t last i n → last ≤ i → all ≡ n → Counted t last all
-none_left t last i n all c h e =
-    let k : i ≡ last = omega (arith, c) in
-    let l : n + ends (drop last t) ≡ ends t = rw k at c.left in
-    record { few = omega (arith, c); left = omega arith }
-
-pub last_run : (t : List ℕ) (last i n m k all : ℕ) → Counting t last i n → k ≡ last
-    → m + ends (drop k t) ≡ ends (drop i t) → m ≤ 240 → all ≡ n + m → Counted t last all
-last_run t last i n m k all c h f g e =
-    let l : m + ends (drop last t) ≡ ends (drop i t) = rw h at f in
-    record { few = omega (arith, c); left = omega (arith, c) }
-
 -- the last byte ends nothing
 pub last_none : (t : List ℕ) (i : ℕ) → i + 1 ≡ length t → ends (drop i t) ≡ 0
 last_none t i h =
@@ -182,8 +161,9 @@ both_there t last h s y z =
     sym (unended_two t (last - 1) (omega arith) ∙ rw (i, y, z))
 
 -- ALL, from runs that came to the last byte
-pub counted_all : (t : List ℕ) (last n r : ℕ) → last + 1 ≡ length t → Counted t last n → r ≡ unended t → n + r ≡ length (lines t)
-counted_all t last n r h c g = omega (arith, c, lines_counted t, last_none t last h)
+pub counted_all : (t : List ℕ) (last n m r : ℕ) → last + 1 ≡ length t → (i : ℕ) → n + ends (drop i t) ≡ ends t
+    → m + ends (drop last t) ≡ ends (drop i t) → r ≡ unended t → n + m + r ≡ length (lines t)
+counted_all t last n m r h i e f g = omega (arith, lines_counted t, last_none t last h)
 
 pub none_counted : (t : List ℕ) → length t ≡ 0 → 0 ≡ length (lines t)
 none_counted [] h = sym (ap length lines_nil)

@@ -170,10 +170,10 @@ pub counted_end : (t : List ℕ) (n at : ℕ) → length t ≤ at → Counted t 
 counted_end t n at h i = omega (arith, ap length (lines_end t at h))
 
 -- SOME COLUMNS OF A LINE, where it is too short for them: none, or those that are left
-no_columns : (s : List ℕ) (from to : ℕ) → length s ≤ from → [] ≡ take (to - from) (drop from s)
+pub no_columns : (s : List ℕ) (from to : ℕ) → length s ≤ from → [] ≡ take (to - from) (drop from s)
 no_columns s from to h = rw (drop_of_length-le s h, take-nil)
 
-few_columns : (s : List ℕ) (from to : ℕ) → length s < to → take (length s - from) (drop from s) ≡ take (to - from) (drop from s)
+pub few_columns : (s : List ℕ) (from to : ℕ) → length s < to → take (length s - from) (drop from s) ≡ take (to - from) (drop from s)
 few_columns s from to h =
     rw (take_all (length s - from) (drop from s) (rw length-drop (omega arith)), take_all (to - from) (drop from s) (rw length-drop (omega arith)))
 
